@@ -33,7 +33,8 @@ returns-clause-begins c settled h =
           (subst (λ (xs : List ℕ). IsFramed (settled ++ xs) c.feed.new.self) c.split_at.ensures.front framed)
           (subst (λ (xs : List ℕ). FindsNext c.feed.new.self xs None) c.split_at.ensures.back
           (w.in_default.ensures.broken, w.in_default.ensures.behind))
-          (subst (λ (xs : List ℕ). IsFramed (settled ++ take c.args.skipped c.args.octets.now ++ xs) c.feed-2.new.self) c.split_at.ensures.back
+          (subst (λ (xs : List ℕ). IsFramed (settled ++ take c.args.skipped c.args.octets.now ++ xs) c.feed-2.new.self)
+          c.split_at.ensures.back
           (subst (λ (xs : List ℕ). IsFramed (settled ++ xs ++ c.split_at.result.1.now) c.feed-2.new.self) c.split_at.ensures.front
           (c.feed-2.ensures (settled ++ c.split_at.result.0.now) framed)))
     ]

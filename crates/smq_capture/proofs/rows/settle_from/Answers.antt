@@ -45,7 +45,8 @@ loop-at-preserved c =
                 c.loop-at.invariant.rest (omega arith) c.index_mut-row.ensures.value (c.is_of.ensures.0 w.if-is_of.true)
                 c.loop-at.invariant.goes w.settle.ensures.settles;
             goes = goes-on _ _ _ c.loop-at.invariant.goes w.settle.ensures.goes;
-            dealt = dealt-step c.args.side c.args.direction.now c.loop-at.direction w.settle.new.direction c.args.rows.now.items c.loop-at.rows.items c.loop-at.at
+            dealt = dealt-step c.args.side c.args.direction.now c.loop-at.direction w.settle.new.direction c.args.rows.now.items
+                c.loop-at.rows.items c.loop-at.at
                 c.index_mut-row.result.now w.settle.new.self c.loop-at.invariant.dealt c.loop-at.invariant.rest (omega arith) (omega arith)
                 c.index_mut-row.ensures.value (c.is_of.ensures.0 w.if-is_of.true) w.in_ok-settle.ensures.dealt;
             size = length-set _ _ _ ∙ c.loop-at.invariant.size;
@@ -54,7 +55,11 @@ loop-at-preserved c =
             done = done-set _ _ _ _ (omega arith) c.loop-at.invariant.done (w.is_settled.ensures.settled w.if-not-is_settled.false);
           })
       | else-is_of w ↦
-          rw (w.rows-is, w.direction-is, set-same c.loop-at.rows.items c.loop-at.at c.index_mut-row.result.now c.index_mut-row.ensures.value)
+          rw (
+            w.rows-is,
+            w.direction-is,
+            set-same c.loop-at.rows.items c.loop-at.at c.index_mut-row.result.now c.index_mut-row.ensures.value,
+          )
           (record {
             settles = c.loop-at.invariant.settles;
             goes = c.loop-at.invariant.goes;
@@ -77,7 +82,8 @@ returns-clause-below c = λ _. all-done _ _ _ _ (omega arith) c.loop-at.invarian
 
 pub returns-then-not-is_settled-clause-dealt : goal.returns-then-not-is_settled-clause-dealt
 returns-then-not-is_settled-clause-dealt c =
-    dealt-last c.args.side c.args.direction.now c.loop-at.direction c.settle.new.direction c.args.rows.now.items c.loop-at.rows.items c.loop-at.at
+    dealt-last c.args.side c.args.direction.now c.loop-at.direction c.settle.new.direction c.args.rows.now.items
+    c.loop-at.rows.items c.loop-at.at
     c.index_mut-row.result.now c.settle.new.self c.loop-at.invariant.dealt c.loop-at.invariant.rest (omega arith) (omega arith)
     c.index_mut-row.ensures.value (c.is_of.ensures.0 c.if-is_of.true) c.in_ok-settle.ensures.dealt
 

@@ -26,7 +26,8 @@ returns-then-last-session-clause-ok c =
 pub returns-clause-ok : goal.returns-clause-ok
 returns-clause-ok c = rw c.in_ok-push.ensures.items (sessions-push c.args.runs.now.items c.args.count c.args.session)
 
-others : (c : goal.In_ok-push) → (n : ℕ) (d : Run) → length c.args.runs.now.items ≡ suc n → (get_or c.args.runs.now.items n d).session ≢ c.args.session
+others : (c : goal.In_ok-push) → (n : ℕ) (d : Run) → length c.args.runs.now.items ≡ suc n
+    → (get_or c.args.runs.now.items n d).session ≢ c.args.session
 others c =
     let size : c.len-length.result ≡ length c.args.runs.now.items = c.len-length.ensures ∙ c.args.runs.now.ok.0 in
     elim c.if-length-gt0.branch [
@@ -38,4 +39,5 @@ others c =
 
 pub returns-clause-kept : goal.returns-clause-kept
 returns-clause-kept c =
-    rw c.in_ok-push.ensures.items (runs-push c.args.runs.now.items c.args.count c.args.session c.requires.some c.requires.runs_are (others c))
+    rw c.in_ok-push.ensures.items
+    (runs-push c.args.runs.now.items c.args.count c.args.session c.requires.some c.requires.runs_are (others c))
