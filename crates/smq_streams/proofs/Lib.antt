@@ -8,3 +8,6 @@ pub mod Finding
 pub mod Notes
 pub mod Directions
 pub mod Places
+pub mod Beginnings
+pub mod CallsOfStreams
+pub mod KnownCalls

@@ -11,7 +11,7 @@ use Rattle.smq_streams.specs.declared.given.Given.{Given}
 use Rattle.smq_streams.specs.Direction.{Direction, Gives, Searches}
 use Rattle.smq_streams.specs.Search.{Finds, IsSeenAt, Search, Stops, counted, octets_given, place_with, with_given}
 
-length-given : (last : Packet) (os : List Octet) → length (given_after last os) ≡ length os
+pub length-given : (last : Packet) (os : List Octet) → length (given_after last os) ≡ length os
 length-given last [] = refl
 length-given last (o ∷ os) = ap suc (length-given (later last o.packet) os)
 

@@ -5,7 +5,7 @@ use Rattle.smq_reassembly.specs.declared.sequence.Place.{Place}
 use Rattle.smq_reassembly.specs.declared.sequence.Place.TheVariants.{Ahead}
 use Rattle.smq_reassembly.specs.Octet.{Octet}
 use Rattle.smq_reassembly.specs.Moment.{IsGiven, Start}
-use Rattle.smq_reassembly.specs.Piece.{Piece, first_packet, first_place}
+use Rattle.smq_reassembly.specs.Piece.{Piece, first_packet, first_place, octets_in}
 use Rattle.smq_reassembly.specs.Segment.{IsTooFarAhead, piece_of}
 use Rattle.smq_reassembly.specs.State.{Follows, State}
 use Rattle.smq_reassembly.specs.Stream.{IsGap}
@@ -54,6 +54,10 @@ pub record IsLent (d : Direction) (place : Place) (packet : Packet) (octets : Li
   pub none : d.held.octets ≡ []
   pub searches : d.is_searching ≡ false
   pub stopped : d.is_stopped ≡ false
+
+-- how many octets of it came and weren't given
+abbrev pub left_in : Direction → ℕ
+left_in d = length d.held.octets + octets_in d.order.waiting
 
 -- whether octets wait behind a gap; and whether others are held behind one that was given up, of which it isn't seen yet where a PDU begins
 abbrev pub has_gap : Direction → Bool

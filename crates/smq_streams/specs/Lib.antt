@@ -5,7 +5,9 @@ pub mod Framing
 pub mod Search
 pub mod Acknowledged
 pub mod Direction
+pub mod Calls
 pub mod within
 pub mod Known
+pub mod KnownCalls
 pub mod Extent
 pub mod Fit

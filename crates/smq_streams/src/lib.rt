@@ -15,6 +15,6 @@ pub use fit::Fit;
 pub use framer::Framer;
 pub use given::Given;
 pub use headers::{LONGEST_PDU, SHORTEST_PDU};
-pub use laws::{known_octets, one_framer};
+pub use laws::{known_calls, known_octets, one_framer, parts_are_streams};
 pub use seeker::Seeker;
 pub use stream::{Found, Missing, Stream, Why};

@@ -5,7 +5,7 @@ ghost use Rattle.smq_reassembly.specs.Moment.{IsGiven, Start};
 ghost use Rattle.smq_reassembly.specs.Piece.{Piece, octets_in};
 ghost use Rattle.smq_reassembly.specs.Segment.{piece_of};
 ghost use Rattle.smq_reassembly.specs.Sequence.{IsPlace};
-ghost use Rattle.smq_streams.specs.Direction.{Adds, Direction, Gives, IsLent, Searches, Skips, has_gap, is_open, is_unclear, missing_tail};
+ghost use Rattle.smq_streams.specs.Direction.{Adds, Direction, Gives, IsLent, Searches, Skips, has_gap, is_open, is_unclear, left_in, missing_tail};
 ghost use Rattle.smq_streams.specs.Extent.{with_captured};
 ghost use Rattle.smq_streams.specs.Fit.{end_at};
 ghost use Rattle.smq_streams.specs.Search.{octets_given, place_with, with_given};
@@ -236,6 +236,7 @@ impl Stream {
             → Gives pieces start given self.old → self.old.first ≡ Some f
             → IsPlace f self.old.order.next sequence place
             → IfOk result (λ r. r ≡ None → self.new ≡ self.old) }
+        ensures octets { IfOk result (λ r. IfSome r (λ next. 0 < length next.octets.now)) }
         ensures captured { IfOk result (λ r. IfSome r (λ next.
             self.new.extent ≡ with_captured self.new.order.next self.old.extent)) }
         ensures same { self.new ≡ record self.old { order = self.new.order; extent = self.new.extent } }
@@ -372,6 +373,7 @@ impl Stream {
             → Gives pieces start given self.old → self.old.is_searching ≡ false
             → IfOk result (λ r. r ≡ None → IsGiven pieces start given) }
         ensures octets { IfOk result (λ r. IfSome r (λ part. 0 < length part.octets.items)) }
+        ensures fewer { IfOk result (λ r. IfSome r (λ part. left_in self.new < left_in self.old)) }
         ensures searches { self.old.is_searching ≡ true → result ≡ Ok None }
         ensures same { self.new ≡ record self.old { order = self.new.order; held = self.new.held } }
         ensures still { IfOk result (λ r. r ≡ None → self.new ≡ self.old) }
@@ -419,17 +421,22 @@ impl Stream {
         })
     }
 
-    /// Gives the gap before what waits up: the stream goes on behind it, where a PDU begins. What is missing.
+    /// Gives the gap before what waits up, where no octets before it are held: the stream goes on behind it, where a PDU begins. What is
+    /// missing.
     pub fn skip_gap(&mut self) -> Option<Missing>
         ensures skips { (pieces : List Piece) (start : Start) (given : List Octet)
-            → Gives pieces start given self.old → self.old.held.octets ≡ []
+            → Gives pieces start given self.old
             → IfSome result (λ missing. Skips pieces self.old self.new missing) }
+        ensures through { IfSome result (λ missing. self.old.held.octets ≡ []) }
         ensures some { IfSome result (λ missing. (missing.from ≡ self.old.order.next)
             × (missing.until ≡ self.new.order.next) × (self.new.order.waiting ≡ self.old.order.waiting)
             × (self.new ≡ record self.old { order = self.new.order; is_searching = true; is_behind_gap = true })) }
-        ensures none { result ≡ None → self.old.order.waiting ≡ [] }
+        ensures none { result ≡ None → self.old.held.octets ≡ [] → self.old.order.waiting ≡ [] }
         ensures still { result ≡ None → self.new ≡ self.old }
     {
+        if !self.seeker.is_through() {
+            return None;
+        }
         let from = self.order.next();
         let until = self.order.skip_gap()?;
         self.is_searching = true;

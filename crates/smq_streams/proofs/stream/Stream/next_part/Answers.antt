@@ -1,6 +1,6 @@
-use Rattle.std.proofs.Common.{◌≡◌, ◌∙◌, ◌+◌, ◌<◌, ◌≤◌, ◌^◌, ◌++◌, ℕ, List, length, refl, sym, subst, ap, arith, length-append}
+use Rattle.std.proofs.Common.{◌≡◌, ◌∙◌, ◌+◌, ◌<◌, ◌≤◌, ◌^◌, List, length, refl, sym, subst, ap, arith, length-append}
 use Rattle.std.proofs.lemmas.Option.{MatchOption-at_some}
-use Rattle.smq_reassembly.specs.Octet.{Octet, octets_of}
+use Rattle.smq_reassembly.specs.Octet.{Octet}
 use Rattle.smq_streams.specs.Direction.{Direction, Gives}
 use Rattle.smq_streams.specs.Search.{Search, octets_given}
 use Rattle.smq_streams.proofs.Octets.{length-octets}
@@ -28,3 +28,12 @@ returns-in-None-clause-some c pieces start given g =
     let e = subst (λ (s : Search). Gives pieces start given (record { first = c.self.inside.first; order = c.self.inside.order; extent = c.self.inside.extent; held = s; opened = c.self.inside.opened; notes = c.self.inside.acknowledged; is_searching = c.self.inside.is_searching; is_behind_gap = c.self.inside.is_behind_gap; is_stopped = c.self.inside.is_stopped })) (sym n.1) d in
     in-order pieces start given _ c.next_in_order.new.self c.next_in_order.result (ap (λ (s : Search). s.octets) n.1 ∙ n.0) c.next_in_order.ensures.same.0 e
     c.next_in_order.ensures.place (c.next_in_order.ensures.some pieces start given e)
+
+pub returns-in-Some-clause-fewer : goal.returns-in-Some-clause-fewer
+returns-in-Some-clause-fewer c =
+    let p = MatchOption-at_some _ _ _ c.in-Some.is c.in_ok-given.ensures.ok in
+    let part = octets_given c.in-Some.given in
+    let size : length part ≡ length c.in-Some.given.octets.items = length-octets _ _ _ in
+    let long : length c.self.inside.seeker.octets ≡ length part + length c.next_part.new.self.octets =
+    ap (λ (os : List Octet). length os) p.2 ∙ length-append part c.next_part.new.self.octets in
+    rw (← c.self.view_is) (omega (arith, p.0, size, long))

@@ -5,9 +5,9 @@ use Rattle.smq_streams.specs.Direction.{Direction, Gives}
 use Rattle.smq_streams.proofs.stream.Stream.skip_gap.Goals as goal
 
 pub returns-clause-skips : goal.returns-clause-skips
-returns-clause-skips c pieces start given g e =
+returns-clause-skips c pieces start given g =
     let f = subst (λ (d : Direction). Gives pieces start given d) (sym c.self.view_is) g in
-    let none = subst (λ (d : Direction). d.held.octets ≡ []) (sym c.self.view_is) e in
+    let none : c.self.inside.seeker.octets ≡ [] = c.is_through.ensures.0 c.if-not-is_through.false in
     let s = c.in_ok-until.ensures.some pieces start (given ++ c.self.inside.seeker.octets) f.follows in
     rw (← c.self.view_is)
     (record {
