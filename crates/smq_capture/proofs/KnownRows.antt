@@ -1,10 +1,10 @@
 -- What the definitions give for known rows.
-use Rattle.std.proofs.Common.{◌≡◌, ℕ, zero, suc, ◌++◌, List, [], ◌∷◌, length, replicate, refl, sym, ap, ◌∙◌, arith, lit≤, lit<}
+use Rattle.std.proofs.Common.{inl, inr, ◌≡◌, ℕ, zero, suc, ◌++◌, List, [], ◌∷◌, length, replicate, refl, sym, ap, ◌∙◌, arith, lit≤, lit<}
 use Rattle.std.specs.Prelude.{Option, Some, None}
 use Rattle.smq_capture.specs.declared.direction.Direction.{Direction}
 use Rattle.smq_capture.specs.declared.direction.Following.{Following}
-use Rattle.smq_capture.specs.KnownRows.{KnowsRows, five}
-use Rattle.smq_capture.specs.Rows.{Row, Settles}
+use Rattle.smq_capture.specs.KnownRows.{KnowsRows, five, two}
+use Rattle.smq_capture.specs.Rows.{Row, Settles, SomeEndsIn}
 use Rattle.smq_capture.specs.Sessions.{next_session, session_behind}
 
 next-is : (d : Direction) (session : ℕ) (f : Option Following) → d.session ≡ session → d.following ≡ f
@@ -27,6 +27,19 @@ none_of s t zero zero e f h = cc
 none_of s t zero (suc m) e f h = let g : 9 ≡ t = cc in omega (arith, g, f)
 none_of s t (suc n) m e f h = let g : 9 ≡ s = cc in omega (arith, g, e)
 
+no_end : SomeEndsIn 8 (two ∷ five (8 ∷ []) ∷ []) (two ∷ five (8 ∷ 8 ∷ 9 ∷ []) ∷ []) → ⊥
+no_end (inl e) = omega (arith, e.0)
+no_end (inr (inl e)) =
+    let nine : ℕ = 9 in
+    let eight : ℕ = 8 in
+    let last : Some nine ≡ Some eight = e.1 in
+    let same : nine ≡ eight = cc in omega (arith, same)
+no_end (inr (inr h)) = h
+
+ended : SomeEndsIn 8 (five (8 ∷ []) ∷ []) (five (8 ∷ []) ∷ []) → ⊥
+ended (inl e) = omega (arith, e.0)
+ended (inr h) = h
+
 pub known_rows : KnowsRows
 known_rows = record {
   client = refl;
@@ -34,9 +47,19 @@ known_rows = record {
   parts = record { octets = refl; sessions = refl; apart = (lit< tt, λ e. omega (arith, e), (lit< tt, tt, tt)) };
   once = λ p. p.apart.1 refl;
   no_more = λ p. let e = ap (λ (xs : List ℕ). length xs) p.octets in omega (arith, e);
-  up_to = lit≤ tt;
-  not_to = λ e. omega (arith, e);
+  up_to = refl;
+  too_few = λ e. omega (arith, e);
+  too_many = λ e. omega (arith, e);
+  already = refl;
+  behind = refl;
+  all = refl;
   not_all = λ e. omega (arith, e);
+  before = lit≤ tt;
+  not_before = λ e. omega (arith, e);
+  ends = inr (inl (lit< tt, refl));
+  no_end = no_end;
+  ended = ended;
+  weight = refl;
   settles = settles;
   no_other = λ d e f s.
       none_of d.session (next_session d) s.one s.other e (next-is d 8 None e f) (ap (λ (r : Row). r.sessions) s.after_is);

@@ -5,3 +5,6 @@ pub mod Waits
 pub mod CallsOfRows
 pub mod KnownRows
 pub mod Begins
+pub mod Flows
+pub mod KnownFlow
+pub mod Writing

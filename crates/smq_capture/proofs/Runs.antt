@@ -1,7 +1,9 @@
 -- The sessions of a row's octets, by runs.
-use Rattle.std.proofs.Common.{◌≡◌, ◌≢◌, ℕ, zero, suc, ◌+◌, ◌-◌, ◌^◌, ◌<◌, ◌≤◌, ◌⊎◌, inl, inr, List, [], ◌∷◌, ◌++◌, length, take, drop, set, get_or, replicate, min, refl, sym, ap, subst, ◌∙◌, append_assoc, append-nil, arith, length-append, length-take, length-drop}
+use Rattle.std.proofs.Common.{◌≡◌, ◌≢◌, ◌↔◌, eqb, ℕ, zero, suc, ◌+◌, ◌-◌, ◌^◌, ◌<◌, ◌≤◌, ◌⊎◌, inl, inr, List, [], ◌∷◌, ◌++◌, length, take, drop, set, get_or, replicate, min, refl, sym, ap, subst, ◌∙◌, append_assoc, append-nil, arith, length-append, length-take, length-drop}
 use Rattle.std.proofs.lemmas.List.{length-replicate, replicate-append-replicate, take-append-drop, drop-take, take-take, get_or_default}
-use Rattle.std.specs.Prelude.{Option, None}
+use Rattle.std.specs.List.{last_or}
+use Rattle.std.proofs.lemmas.Bool.{eq-eqb, eqb-true}
+use Rattle.std.specs.Prelude.{IsTrue, Option, Some, None}
 use Rattle.smq_capture.specs.declared.direction.Direction.{Direction}
 use Rattle.smq_capture.specs.declared.direction.Following.{Following}
 use Rattle.smq_capture.specs.declared.waiting.Run.{Run}
@@ -87,6 +89,42 @@ count-within (x ∷ xs) zero d l =
 count-within (x ∷ xs) (suc n) d l =
     let less : n < length xs = omega arith in
     omega (arith, length-append (replicate x.count x.session) (sessions_of xs), count-within xs n d less)
+
+-- ---- the last octet's session
+
+last-append : (o : Option ℕ) (xs ys : List ℕ) → last_or o (xs ++ ys) ≡ last_or (last_or o xs) ys
+last-append o [] ys = refl
+last-append o (x ∷ xs) ys = last-append (Some x) xs ys
+
+last-replicate : (o : Option ℕ) (n s : ℕ) → 0 < n → last_or o (replicate n s) ≡ Some s
+last-replicate o zero s h = absurd (omega arith)
+last-replicate o (suc zero) s h = refl
+last-replicate o (suc (suc n)) s h = let more : 0 < suc n = omega arith in last-replicate (Some s) (suc n) s more
+
+last-run : (o : Option ℕ) (xs : List Run) (n : ℕ) (d : Run) → length xs ≡ suc n → AreRuns xs
+    → last_or o (sessions_of xs) ≡ Some (get_or xs n d).session
+last-run o [] n d l k = absurd (omega arith)
+last-run o (x ∷ []) zero d l k =
+    last-append o (replicate x.count x.session) [] ∙ last-replicate o x.count x.session k.0
+last-run o (x ∷ []) (suc n) d l k = absurd (omega arith)
+last-run o (x ∷ y ∷ ys) zero d l k = absurd (omega arith)
+last-run o (x ∷ y ∷ ys) (suc n) d l k =
+    let less : length (y ∷ ys) ≡ suc n = omega arith in
+    last-append o (replicate x.count x.session) (sessions_of (y ∷ ys))
+    ∙ last-run (last_or o (replicate x.count x.session)) (y ∷ ys) n d less k.2
+
+-- it is the last run's
+pub last-is : (xs : List Run) (d : Run) → 0 < length xs → AreRuns xs → d ≡ get_or xs (length xs - 1) d
+    → last_or None (sessions_of xs) ≡ Some d.session
+last-is xs d l k e =
+    let n : length xs ≡ suc (length xs - 1) = omega arith in
+    last-run None xs (length xs - 1) d n k ∙ ap (λ (r : Run). Some r.session) (sym e)
+
+pub tells-last : (o : Option ℕ) (s t : ℕ) → o ≡ Some s → IsTrue (eqb s t) ↔ (o ≡ Some t)
+tells-last o s t e = (
+  λ h. e ∙ ap (λ (n : ℕ). Some n) (eqb-true s t h),
+  λ h. let f : Some s ≡ Some t = sym e ∙ h in let same : s ≡ t = cc in eq-eqb s t same,
+)
 
 -- ---- parts
 

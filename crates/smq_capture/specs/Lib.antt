@@ -12,3 +12,6 @@ pub mod Calls
 pub mod within
 pub mod Known
 pub mod KnownRows
+pub mod Flow
+pub mod KnownFlow
+pub mod Written

@@ -1,6 +1,6 @@
 -- The rows of a connection that wait until the session of each of their octets is known.
-use Rattle.std.specs.Prelude.{◌≡◌, ◌≢◌, ℕ, ◌+◌, ◌-◌, ◌^◌, ◌<◌, ◌≤◌, ◌⊎◌, min, List, [], ◌∷◌, ◌++◌, length, take, drop, replicate, Option, Some, None}
-use Rattle.std.specs.List.{AllByRecursion}
+use Rattle.std.specs.Prelude.{◌≡◌, ◌≢◌, ℕ, ◌+◌, ◌-◌, ◌^◌, ◌<◌, ◌≤◌, ◌⊎◌, min, max, List, [], ◌∷◌, ◌++◌, length, take, drop, replicate, sum_by, Option, Some, None}
+use Rattle.std.specs.List.{AllByRecursion, AllZip, last_or}
 use Rattle.smq_capture.specs.declared.direction.Direction.{Direction}
 use Rattle.smq_capture.specs.declared.side.Side.{Side}
 use Rattle.smq_capture.specs.Sessions.{Deals, next_session}
@@ -19,10 +19,34 @@ pub record Row : Type 0 where
 abbrev pub IsSettled : Row → Type 0
 IsSettled row = length row.sessions ≡ length row.octets
 
--- those that are before a place are, or all
-abbrev pub IsSettledTo : Option ℕ → Row → Type 0
-IsSettledTo None row = IsSettled row
-IsSettledTo (Some place) row = min (place - row.place) (length row.octets) ≤ length row.sessions
+-- what a row takes in memory: its octets, and what stands beside them
+abbrev pub weight_of : Row → ℕ
+weight_of row = 160 + length row.octets
+
+-- what rows take
+abbrev pub weight_in : List Row → ℕ
+weight_in rows = sum_by weight_of rows
+
+-- its octets are settled up to a place, or to its end: those that were, those before the place, and no others
+abbrev pub IsSettledTo : Option ℕ → Row → Row → Type 0
+IsSettledTo None before after = length after.sessions ≡ length before.octets
+IsSettledTo (Some place) before after =
+    length after.sessions ≡ max (length before.sessions) (min (place - before.place) (length before.octets))
+
+-- each octet of it that is settled was, or is before a place
+abbrev pub SettlesBefore : ℕ → Row → Row → Type 0
+SettlesBefore place before after = length after.sessions ≤ max (length before.sessions) (place - before.place)
+
+-- octets of it are settled, the last of them as one of a session
+abbrev pub EndsIn : ℕ → Row → Row → Type 0
+EndsIn session before after = (length before.sessions < length after.sessions) × (last_or None after.sessions ≡ Some session)
+
+-- so it is with one row or more
+abbrev pub SomeEndsIn : ℕ → List Row → List Row → Type 0
+SomeEndsIn session [] [] = ⊥
+SomeEndsIn session [] (r ∷ rs) = ⊥
+SomeEndsIn session (r ∷ rs) [] = ⊥
+SomeEndsIn session (r ∷ rs) (t ∷ ts) = EndsIn session r t ⊎ SomeEndsIn session rs ts
 
 -- more of its octets are settled: first some of the direction's session, then some of the one that follows in it. All else stays
 pub record Settles (direction : Direction) (before after : Row) : Type 0 where
@@ -61,9 +85,9 @@ AllDealt side direction next (r ∷ rs) [] = ⊥
 AllDealt side direction next (r ∷ rs) (t ∷ ts) =
     (then : Direction) × MayDeal direction then r t × (r.sender ≢ side → t ≡ r) × AllDealt side then next rs ts
 
--- the rows of a side are settled up to a place of it, or all
-abbrev pub AreSettledTo : Option ℕ → Side → List Row → Type 0
-AreSettledTo until side rows = AllByRecursion (λ row. row.sender ≡ side → IsSettledTo until row) rows
+-- each row of a side is settled up to a place of it, or to its end
+abbrev pub AreSettledTo : Option ℕ → Side → List Row → List Row → Type 0
+AreSettledTo until side before after = AllZip (λ r t. r.sender ≡ side → IsSettledTo until r t) before after
 
 -- the rows of a side stand in order: none begins before one ends that was put before it
 abbrev pub AreInOrder : Side → List Row → Type 0

@@ -3,16 +3,16 @@
 //! A connection is a session up to its first gap that is given up. The next session begins with the first PDU that is seen to begin
 //! behind that gap; and, in the other direction, with the first PDU that begins behind all octets that packets before the one of that
 //! PDU have. Gaps are taken in the order of the packets behind them, and a session without an octet gives its number to the next.
-use crate::direction::{Both, Direction};
 use crate::ended::{Span, Spans};
 use crate::ends::Ends;
 use crate::fault::Fault;
+use crate::flow::{AtOnce, Came, Flow};
 use crate::least::least;
 use crate::notice::{Notice, Sender};
 use crate::numbers::{Heard, behind};
 use crate::output::Output;
-use crate::rows::Rows;
 use crate::side::Side;
+use crate::signs::{Both, Signs, is_reset_by};
 use crate::sink::{Piece, SessionLine, Sink};
 use crate::strays::Strays;
 use smq_packets::{ACK, End, FIN, RST, SYN, Segment};
@@ -39,13 +39,12 @@ pub(crate) struct Connection {
     link: u32,
     client: End,
     centre: End,
-    both: Both,
+    flow: Flow,
+    signs: Both,
     /// Its first session and its last, and whether that has rows.
     first: u64,
     last: u64,
     has_rows: bool,
-    /// The rows that weren't written.
-    rows: Rows,
     /// The sessions that weren't told.
     lines: VecDeque<SessionLine>,
     stray: Option<Stray>,
@@ -85,14 +84,14 @@ impl Connection {
             link,
             client,
             centre,
-            both: Both {
-                client: Direction::new(alloc, session),
-                centre: Direction::new(alloc, session),
+            flow: Flow::new(alloc, session),
+            signs: Both {
+                client: Signs::new(alloc),
+                centre: Signs::new(alloc),
             },
             first: session,
             last: session,
             has_rows: false,
-            rows: Rows::new(alloc),
             lines,
             stray: None,
             strays: Strays::new(alloc),
@@ -133,46 +132,46 @@ impl Connection {
         }
     }
 
-    /// Whether something waits that may begin another session.
-    fn is_open(&self) -> bool {
-        self.both.client.stream.is_open() || self.both.centre.stream.is_open()
+    /// The octets of a direction.
+    fn stream(&self, side: Side) -> &Stream {
+        &self.flow.of(side).stream
     }
 
     /// Whether it ended, and nothing waits.
     pub(crate) fn is_done(&self) -> bool {
-        let is_finished = self.both.client.is_finished() && self.both.centre.is_finished();
-        (self.is_reset || is_finished) && !self.is_open() && self.rows.is_empty()
+        let is_finished = self.signs.client.is_finished(self.stream(Side::Client))
+            && self.signs.centre.is_finished(self.stream(Side::Centre));
+        (self.is_reset || is_finished) && !self.flow.is_open() && self.flow.is_written()
     }
 
     /// How much memory what waits takes, at most.
     pub(crate) fn weight(&self) -> u64 {
-        self.both
-            .client
+        self.flow
             .weight()
-            .saturating_add(self.both.centre.weight())
-            .saturating_add(self.rows.weight())
+            .saturating_add(self.signs.client.weight())
+            .saturating_add(self.signs.centre.weight())
     }
 
     /// When what waits is given up, if anything does.
     pub(crate) fn deadline(&mut self) -> Option<u64> {
         least(
-            self.both.client.stream.deadline(),
-            self.both.centre.stream.deadline(),
+            self.flow.deadline(Side::Client),
+            self.flow.deadline(Side::Centre),
         )
     }
 
     /// Since when something waits.
     pub(crate) fn waits_since(&self) -> Option<u64> {
         least(
-            self.both.client.stream.opened(),
-            self.both.centre.stream.opened(),
+            self.stream(Side::Client).opened(),
+            self.stream(Side::Centre).opened(),
         )
     }
 
     /// The octets of its directions.
     pub(crate) fn spans(&self, ends: &Ends) -> Spans {
-        let client = span_of(&self.both.client.stream);
-        let centre = span_of(&self.both.centre.stream);
+        let client = span_of(self.stream(Side::Client));
+        let centre = span_of(self.stream(Side::Centre));
         if self.client == ends.low {
             Spans {
                 low: client,
@@ -188,8 +187,9 @@ impl Connection {
 
     /// Begins the direction of an end by a SYN of this number.
     pub(crate) fn begin_by_syn(&mut self, side: Side, sequence: u32) {
-        self.both.of_mut(side).begin_by_syn(sequence);
-        let has_syn = self.both.client.has_syn && self.both.centre.has_syn;
+        self.flow.begin(side, sequence.wrapping_add(1), false);
+        self.signs.of_mut(side).has_syn = true;
+        let has_syn = self.signs.client.has_syn && self.signs.centre.has_syn;
         if let Some(line) = self.lines.front_mut() {
             if line.session == self.first {
                 line.has_syn = has_syn;
@@ -204,21 +204,12 @@ impl Connection {
         side: Side,
         number: u64,
         moment: u64,
-        octets: Vec<u8>,
+        octets: &[u8],
     ) -> Result<(), Fault> {
-        let stream = &mut self.both.of_mut(side).stream;
-        let place = stream.next();
-        let Some(first) = stream.first() else {
-            return Ok(());
-        };
-        let packet = Packet { number, moment };
-        let is_next = stream
-            .takes_next(output.alloc, first, octets.as_slice(), packet)?
-            .is_some();
-        if is_next {
-            self.put(side, place, octets, number, moment)?;
+        match self.stream(side).first() {
+            Some(first) => self.take_octets(output, side, first, number, moment, octets),
+            None => Ok(()),
         }
-        self.write(output)
     }
 
     /// Takes a segment: its octets become rows as far as nothing is missing before them.
@@ -235,11 +226,8 @@ impl Connection {
             self.begin_by_syn(sender, segment.sequence);
         }
         let sequence = segment.sequence.wrapping_add(u32::from(segment.has(SYN)));
-        if segment.length > 0 && self.both.of(sender).stream.first().is_none() {
-            self.both
-                .of_mut(sender)
-                .stream
-                .begin(sequence, !output.is_strict);
+        if segment.length > 0 && self.stream(sender).first().is_none() {
+            self.flow.begin(sender, sequence, !output.is_strict);
             output.tell(Notice::NoSyn(self.label(sender)))?;
         }
         self.note_numbers(sender, sequence, moment, segment)?;
@@ -247,18 +235,20 @@ impl Connection {
             return Ok(());
         }
         if segment.octets.len() < segment.length {
-            self.both.of_mut(sender).cut.add(number);
+            self.signs.of_mut(sender).cut.add(number);
         }
         self.is_reset = false;
+        let stream = &self.flow.of(sender).stream;
         if self
-            .both
+            .signs
             .of_mut(sender)
-            .sets_aside(sequence, segment.octets)
+            .sets_aside(stream, sequence, segment.octets)
         {
             return Ok(());
         }
         self.take_octets(output, sender, sequence, number, moment, segment.octets)?;
-        if let Some(aside) = self.both.of_mut(sender).take_aside() {
+        let next = self.stream(sender).next();
+        if let Some(aside) = self.signs.of_mut(sender).take_aside(next) {
             let octets = [aside.octet];
             self.take_octets(output, sender, aside.sequence, number, moment, &octets)?;
         }
@@ -275,20 +265,24 @@ impl Connection {
     ) -> Result<(), AllocError> {
         let is_reset = segment.has(RST);
         if segment.has(ACK) && !is_reset {
-            self.both
-                .of_mut(sender.other())
-                .note_acknowledged(segment.acknowledged, moment)?;
+            let other = sender.other();
+            let acknowledged = segment.acknowledged;
+            if self.flow.of(other).fits_acknowledged(acknowledged) {
+                let place = self.stream(other).place(acknowledged);
+                self.signs.of_mut(other).note_acknowledged(place);
+            }
+            self.flow.note_acknowledged(other, acknowledged, moment)?;
         }
-        let direction = self.both.of_mut(sender);
         if is_reset {
-            self.is_reset = self.is_reset || direction.is_reset_by(sequence);
+            self.is_reset = self.is_reset || is_reset_by(self.stream(sender), sequence);
             return Ok(());
         }
         let end = behind(sequence, segment.length);
         let is_exact = segment.length > 0 || segment.has(FIN);
-        direction.stream.note_sent(end, is_exact);
+        self.flow.note_sent(sender, end, is_exact);
         if segment.has(FIN) {
-            direction.note_fin(end);
+            let place = self.stream(sender).place(end);
+            self.signs.of_mut(sender).note_fin(place);
         }
         Ok(())
     }
@@ -303,22 +297,19 @@ impl Connection {
         moment: u64,
         octets: &[u8],
     ) -> Result<(), Fault> {
-        let waits = self.both.of(sender.other()).stream.is_open();
-        let is_free = !waits && self.rows.is_empty();
-        let direction = self.both.of_mut(sender);
-        let top = direction.stream.top();
-        let place = direction.stream.next();
-        // (mostly a segment is the next, and nothing waits)
+        let waits = self.stream(sender.other()).is_open();
+        let before = self.stream(sender).top();
         let packet = Packet { number, moment };
-        if let Some(next) = direction
-            .stream
-            .takes_next(output.alloc, sequence, octets, packet)?
+        match self
+            .flow
+            .take(output.alloc, sender, sequence, octets, packet)?
         {
-            let octets = next.octets;
-            if is_free && direction.following.is_none() {
-                let moment = direction.raise_moment(number, moment);
-                direction.framer.feed(octets);
-                let session = direction.session;
+            Came::AtOnce(part) => {
+                let AtOnce {
+                    session,
+                    moment,
+                    octets,
+                } = part;
                 self.has_rows = self.has_rows || session == self.last;
                 self.note_packet(session, number);
                 return output.put(&Piece {
@@ -329,26 +320,17 @@ impl Connection {
                     octets,
                 });
             }
-            direction.note_top(number, top, waits)?;
-            let octets = Vec::from_slice(output.alloc, octets)?;
-            self.put(sender, place, octets, number, moment)?;
-            return self.write(output);
+            Came::Taken => {}
+            Came::Outside => self.signs.of_mut(sender).outside.add(number),
         }
-        if !direction
-            .stream
-            .add(output.alloc, sequence, octets, packet)?
-        {
-            direction.outside.add(number);
+        let top = self.stream(sender).top();
+        self.signs
+            .of_mut(sender)
+            .note_top(number, before, top, waits)?;
+        if let Some(place) = self.go_on(output, sender, false)? {
+            self.tell_going_on(output, sender, place)?;
         }
-        direction.note_top(number, top, waits)?;
-        if direction.stream.is_searching() {
-            if let Some(place) = self.go_on(output, sender, false)? {
-                self.tell_going_on(output, sender, place)?;
-            }
-        } else {
-            self.release(output, sender, Some((number, moment)))?;
-        }
-        self.both.of_mut(sender).stream.watch(moment);
+        self.flow.watch(sender, moment);
         self.write(output)
     }
 }

@@ -2,6 +2,7 @@
 ghost use Rattle.std.specs.Prelude.{List, []};
 ghost use Rattle.smq_capture.specs.Calls.{Become, Call, ComeOnce, OctetsStay};
 ghost use Rattle.smq_capture.specs.Known.{KnowsConnections, KnowsMoments, KnowsNumbers};
+ghost use Rattle.smq_capture.specs.KnownFlow.{KnowsFlow};
 ghost use Rattle.smq_capture.specs.KnownRows.{KnowsRows};
 ghost use Rattle.smq_capture.specs.Rows.{Row};
 
@@ -21,6 +22,11 @@ pub fn known_connections()
 /// What is settled of known rows, and their parts.
 pub fn known_rows()
     ensures { KnowsRows }
+{}
+
+/// Which octets of a known direction became rows, and at which moments.
+pub fn known_flow()
+    ensures { KnowsFlow }
 {}
 
 /// Whatever is put, settled and taken, of a connection's rows none is lost and none comes twice; and so it is with the octets of each end.

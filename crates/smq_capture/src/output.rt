@@ -1,5 +1,7 @@
 //! What a capture gives, and how much it was.
-ghost use Rattle.std.specs.Prelude.{◌≡◌, ◌+◌, ◌<◌, ◌^◌};
+ghost use Rattle.std.specs.Prelude.{◌≡◌, ◌+◌, ◌<◌, ◌^◌, OnOk};
+ghost use Rattle.std.specs.Io.KnownBytes.{Appends};
+ghost use Rattle.smq_capture.specs.Written.{piece_text};
 
 use crate::fault::Fault;
 use crate::notice::Notice;
@@ -62,7 +64,9 @@ impl<S: Sink> Output<S> {
     }
 
     /// Gives a piece.
-    pub(crate) fn put(&mut self, piece: &Piece<'_>) -> Result<(), Fault> {
+    pub(crate) fn put(&mut self, piece: &Piece<'_>) -> Result<(), Fault>
+        ensures { OnOk result (Appends (S.contents self.old.sink) (S.contents self.new.sink) (piece_text piece.now)) }
+    {
         let octets = self.sink.put(piece)?;
         self.rows = self.rows.saturating_add(1);
         self.octets = self.octets.saturating_add(octets as u64);

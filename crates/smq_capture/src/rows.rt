@@ -1,6 +1,7 @@
 //! The rows of a connection, in the order in which they came: each waits until the session of each of its octets is known.
 ghost use Rattle.std.specs.Prelude.{◌≡◌, ℕ, ◌≤◌, ◌++◌, ◌∷◌, [], length, slice_get, take, IsTrue, ◌↔◌, IfOk, OnOk, OnErr, IfSome, MatchOption, Some, None};
-ghost use Rattle.smq_capture.specs.Rows.{AllDealt, AllSettle, AreInOrder, AreSettledTo, IsSettled};
+ghost use Rattle.std.specs.List.{AllZip};
+ghost use Rattle.smq_capture.specs.Rows.{AllDealt, AllSettle, AreInOrder, AreSettledTo, IsSettled, SettlesBefore, SomeEndsIn, weight_in};
 ghost use Rattle.smq_capture.specs.Sessions.{Goes};
 ghost use Rattle.smq_capture.specs.within.Runs.{IsDone};
 
@@ -10,9 +11,6 @@ use crate::waiting::Waiting;
 use std::alloc::{AllocError, Global};
 use std::collections::VecDeque;
 use std::marker::Model;
-
-/// What a row that waits takes besides its octets.
-const ROW: u64 = 160;
 
 /// Rows of both directions.
 #[derive(Drop)]
@@ -26,8 +24,8 @@ pub(crate) struct Rows {
 }
 
 impl Model for Rows {
-    ghost use Rattle.std.specs.Prelude.{List};
-    ghost use Rattle.smq_capture.specs.Rows.{Row};
+    ghost use Rattle.std.specs.Prelude.{◌≡◌, List};
+    ghost use Rattle.smq_capture.specs.Rows.{Row, weight_in};
     ghost use Rattle.smq_capture.specs.within.Runs.{IsDone};
     ghost use Rattle.smq_capture.specs.declared.side.Side.TheVariants.{Client, Centre};
 
@@ -35,7 +33,8 @@ impl Model for Rows {
 
     ghost view = { λ r. r.rows.items };
 
-    ghost invariant = { λ r. IsDone Client r.client r.rows.items × IsDone Centre r.centre r.rows.items };
+    ghost invariant = { λ r. (r.weight ≡ weight_in r.rows.items)
+        × IsDone Client r.client r.rows.items × IsDone Centre r.centre r.rows.items };
 }
 
 impl Rows {
@@ -59,7 +58,9 @@ impl Rows {
     }
 
     /// How much memory they take, at most.
-    pub(crate) fn weight(&self) -> u64 {
+    pub(crate) fn weight(&self) -> u64
+        ensures { result ≡ weight_in self.now }
+    {
         self.weight
     }
 
@@ -82,10 +83,12 @@ impl Rows {
         }) ∷ []) }
         ensures err { OnErr result (self.new ≡ self.old) }
     {
-        let weight = weight_of(octets.len());
-        self.rows
-            .push_back(Waiting::new(sender, place, number, moment, octets))?;
-        self.weight = self.weight.saturating_add(weight);
+        let row = Waiting::new(sender, place, number, moment, octets);
+        let Some(weight) = self.weight.checked_add(row.weight()) else {
+            return Err(AllocError);
+        };
+        self.rows.push_back(row)?;
+        self.weight = weight;
         Ok(())
     }
 
@@ -100,13 +103,13 @@ impl Rows {
             _ => return None,
         }
         let row = self.rows.pop_front()?;
-        self.weight = self.weight.saturating_sub(weight_of(row.len()));
+        self.weight -= row.weight();
         self.client = self.client.saturating_sub(1);
         self.centre = self.centre.saturating_sub(1);
         Some(row)
     }
 
-    /// Settles the octets of a direction, in order, up to a place of it or all; whether some of them are of a session.
+    /// Settles the octets of a direction, in order, up to a place of it or all; whether the last ones of some row are of a session.
     pub(crate) fn settle(
         &mut self,
         side: Side,
@@ -117,8 +120,10 @@ impl Rows {
         ensures settles { AllSettle side direction.old self.old self.new }
         ensures goes { Goes direction.old direction.new }
         ensures dealt { OnOk result (AllDealt side direction.old direction.new self.old self.new) }
-        ensures all { until ≡ None → OnOk result (AreSettledTo until side self.new) }
-        ensures below { AreInOrder side self.old → OnOk result (AreSettledTo until side self.new) }
+        ensures all { until ≡ None → OnOk result (AreSettledTo until side self.old self.new) }
+        ensures below { AreInOrder side self.old → OnOk result (AreSettledTo until side self.old self.new) }
+        ensures before { (place : ℕ) → until ≡ Some place → AllZip (SettlesBefore place) self.old self.new }
+        ensures answer { IfOk result (λ is_there. IsTrue is_there ↔ SomeEndsIn session self.old self.new) }
     {
         match side {
             Side::Client => {
@@ -149,7 +154,8 @@ impl Rows {
     }
 }
 
-/// Settles the octets of a direction in rows of which so many need no look: how many need none then, and whether some are of a session.
+/// Settles the octets of a direction in rows of which so many need no look: how many need none then, and whether the last ones that
+/// were settled of some row are of a session.
 fn settle_from(
     rows: &mut VecDeque<Waiting>,
     from: usize,
@@ -164,26 +170,21 @@ fn settle_from(
     ensures dealt { OnOk result (AllDealt side direction.old direction.new rows.old.items rows.new.items) }
     ensures kept { take from rows.new.items ≡ take from rows.old.items }
     ensures done { IfOk result (λ r. IsDone side r.0 rows.new.items) }
-    ensures all { until ≡ None → OnOk result (AreSettledTo until side rows.new.items) }
-    ensures below { AreInOrder side rows.old.items → OnOk result (AreSettledTo until side rows.new.items) }
+    ensures all { until ≡ None → OnOk result (AreSettledTo until side rows.old.items rows.new.items) }
+    ensures below { AreInOrder side rows.old.items → OnOk result (AreSettledTo until side rows.old.items rows.new.items) }
+    ensures before { (place : ℕ) → until ≡ Some place → AllZip (SettlesBefore place) rows.old.items rows.new.items }
+    ensures answer { IfOk result (λ r. IsTrue r.1 ↔ SomeEndsIn session rows.old.items rows.new.items) }
 {
     let end = rows.len();
     let mut is_there = false;
     for at in from..end {
         let row = &mut rows[at];
         if row.is_of(side) {
-            if row.settle(until, direction, session)? {
-                is_there = true;
-            }
+            is_there |= row.settle(until, direction, session)?;
             if !row.is_settled() {
                 return Ok((at, is_there));
             }
         }
     }
     Ok((end, is_there))
-}
-
-/// What a row of so many octets takes.
-fn weight_of(length: usize) -> u64 {
-    ROW.saturating_add(length as u64)
 }

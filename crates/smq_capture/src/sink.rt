@@ -1,4 +1,8 @@
 //! Where what is read of a capture goes.
+ghost use Rattle.std.specs.Prelude.{◌≡◌, [], OnOk};
+ghost use Rattle.std.specs.Io.KnownBytes.{Appends, Keeps, append_known};
+ghost use Rattle.smq_capture.specs.Written.{piece_text};
+
 use crate::fault::Fault;
 use crate::notice::Notice;
 use crate::row::put_row;
@@ -51,8 +55,16 @@ pub struct Loss {
 
 /// What takes the pieces of sessions and what is told of a capture, each as soon as it is known.
 pub trait Sink {
+    ghost use Rattle.std.specs.Prelude.{ℕ, List, Option, OnOk};
+    ghost use Rattle.std.specs.Io.KnownBytes.{Appends};
+    ghost use Rattle.smq_capture.specs.Written.{piece_text};
+
+    /// The text of the rows that it took, where that is known.
+    ghost contents: { Self → Option (List ℕ) };
+
     /// Takes a piece; how many octets a row of it has.
-    fn put(&mut self, piece: &Piece<'_>) -> Result<usize, Fault>;
+    fn put(&mut self, piece: &Piece<'_>) -> Result<usize, Fault>
+        ensures { OnOk result (Appends (contents self.old) (contents self.new) (piece_text piece.now)) };
 
     /// Takes that the capture's clock has passed a multiple of what was asked for, which is told where it is later than the one before, and
     /// once more that the captures ended.
@@ -114,7 +126,10 @@ impl<W: Write, N: Write, I: Write, L: Write> Texts<W, N, I, L> {
     }
 
     /// Writes the rows that it took.
-    fn write_rows(&mut self) -> Result<(), Fault> {
+    fn write_rows(&mut self) -> Result<(), Fault>
+        ensures { OnOk result (Keeps (append_known (W.contents self.old.rows) self.old.text.items)
+            (append_known (W.contents self.new.rows) self.new.text.items)) }
+    {
         write_to(&mut self.rows, self.text.as_slice())?;
         self.text.clear();
         Ok(())
@@ -122,6 +137,8 @@ impl<W: Write, N: Write, I: Write, L: Write> Texts<W, N, I, L> {
 }
 
 impl<W: Write, N: Write, I: Write, L: Write> Sink for Texts<W, N, I, L> {
+    ghost contents = { λ t. append_known (W.contents t.rows) t.text.items };
+
     fn put(&mut self, piece: &Piece<'_>) -> Result<usize, Fault> {
         let before = self.text.len();
         put_row(
@@ -196,7 +213,9 @@ impl<W: Write, N: Write, I: Write, L: Write> Sink for Texts<W, N, I, L> {
 }
 
 /// Writes all of a text.
-fn write_to<W: Write>(writer: &mut W, text: &[u8]) -> Result<(), Fault> {
+fn write_to<W: Write>(writer: &mut W, text: &[u8]) -> Result<(), Fault>
+    ensures { OnOk result (Appends (W.contents writer.old) (W.contents writer.new) text.now) }
+{
     match writer.write_all(text) {
         Ok(()) => Ok(()),
         Err(error) => Err(Fault::Write(error)),

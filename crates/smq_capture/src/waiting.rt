@@ -1,6 +1,7 @@
 //! A row of a connection that waits until the session of each of its octets is known.
-ghost use Rattle.std.specs.Prelude.{◌≡◌, ◌↔◌, ℕ, ◌+◌, ◌^◌, ◌<◌, ◌≤◌, ◌++◌, ◌∷◌, [], min, length, replicate, IsTrue, false, OnOk, OnErr, MatchOption};
-ghost use Rattle.smq_capture.specs.Rows.{AreParts, IsSettled, IsSettledTo, MayDeal, Settles};
+ghost use Rattle.std.specs.Prelude.{◌≡◌, ◌↔◌, ℕ, ◌+◌, ◌^◌, ◌<◌, ◌≤◌, ◌++◌, ◌∷◌, [], min, length, replicate, IsTrue, false, IfOk, OnOk, OnErr, MatchOption, Some, None};
+ghost use Rattle.std.specs.List.{last_or};
+ghost use Rattle.smq_capture.specs.Rows.{AreParts, EndsIn, IsSettled, IsSettledTo, MayDeal, Settles, SettlesBefore, weight_of};
 ghost use Rattle.smq_capture.specs.Sessions.{Goes};
 ghost use Rattle.smq_capture.specs.within.Runs.{AreRuns, sessions_of};
 
@@ -8,6 +9,9 @@ use crate::direction::Direction;
 use crate::side::Side;
 use std::alloc::AllocError;
 use std::marker::Model;
+
+/// What a row takes in memory besides its octets.
+const ROW: u64 = 160;
 
 /// So many octets that follow one another are of a session.
 #[derive(Clone, Copy)]
@@ -104,11 +108,11 @@ impl Waiting {
         self.moment
     }
 
-    /// How many there are.
-    pub(crate) fn len(&self) -> usize
-        ensures { result ≡ length self.now.octets }
+    /// How much memory they take, at most.
+    pub(crate) fn weight(&self) -> u64
+        ensures { result ≡ weight_of self.now }
     {
-        self.octets.len()
+        ROW + self.octets.len() as u64
     }
 
     /// Whether each of them is settled.
@@ -119,7 +123,7 @@ impl Waiting {
         self.settled >= self.octets.len()
     }
 
-    /// Settles octets up to a place, or all; whether the last of them is of a session.
+    /// Settles octets up to a place, or all; whether there were some, and the last of them is of a session.
     pub(crate) fn settle(
         &mut self,
         until: Option<u64>,
@@ -128,7 +132,9 @@ impl Waiting {
     ) -> Result<bool, AllocError>
         ensures settles { Settles direction.old self.old self.new }
         ensures goes { Goes direction.old direction.new }
-        ensures ok { OnOk result (IsSettledTo until self.new) }
+        ensures ok { OnOk result (IsSettledTo until self.old self.new) }
+        ensures before { (place : ℕ) → until ≡ Some place → SettlesBefore place self.old self.new }
+        ensures answer { IfOk result (λ is_there. IsTrue is_there ↔ EndsIn session self.old self.new) }
         ensures dealt { OnOk result (MayDeal direction.old direction.new self.old self.new) }
     {
         let limit = match until {
@@ -143,7 +149,17 @@ impl Waiting {
         let settled = direction.settle(place, &self.octets[from..limit]);
         self.extend(settled.place, settled.before)?;
         self.extend(limit - from - settled.place, settled.after)?;
-        Ok(settled.after == session)
+        Ok(self.ends_in(session))
+    }
+
+    /// Whether the last octet that is settled is of a session.
+    fn ends_in(&self, session: u64) -> bool
+        ensures { IsTrue result ↔ (last_or None self.now.sessions ≡ Some session) }
+    {
+        match self.runs.last() {
+            Some(run) => run.session == session,
+            None => false,
+        }
     }
 
     /// Makes so many octets more be of a session.

@@ -10,8 +10,8 @@ impl Connection {
     /// Whether a SYN is that of the direction of its sender.
     pub(crate) fn has_syn(&self, segment: &Segment) -> bool {
         let sender = self.sender(segment);
-        let stream = &self.both.of(sender).stream;
-        let other = &self.both.of(sender.other()).stream;
+        let stream = self.stream(sender);
+        let other = self.stream(sender.other());
         match stream.first() {
             Some(first) => segment.sequence.wrapping_add(1) == first,
             None => segment.has(ACK) && other.first() == Some(segment.acknowledged),
@@ -20,7 +20,7 @@ impl Connection {
 
     /// Whether a segment is of this connection, by its numbers.
     pub(crate) fn fits(&self, segment: &Segment) -> bool {
-        self.both.of(self.sender(segment)).fits(segment)
+        self.flow.of(self.sender(segment)).fits(segment)
     }
 
     /// Whether a segment shows that another connection has these ends: it acknowledges what stands outside of this one and was seen.
@@ -32,7 +32,7 @@ impl Connection {
         segment.has(ACK)
             && stray.sender != sender
             && !self
-                .both
+                .flow
                 .of(stray.sender)
                 .fits_acknowledged(segment.acknowledged)
             && is_followed(stray.heard, segment.acknowledged, segment.sequence)
@@ -70,7 +70,7 @@ impl Connection {
     /// Passes over a segment, since it isn't within its window.
     pub(crate) fn pass_over(&mut self, number: u64, segment: &Segment) {
         let sender = self.sender(segment);
-        self.both.of_mut(sender).outside.add(number);
+        self.signs.of_mut(sender).outside.add(number);
     }
 
     /// Passes over the oldest segment that is kept.

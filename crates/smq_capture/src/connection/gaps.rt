@@ -1,14 +1,14 @@
 //! Gaps of a connection that are given up, and the sessions that begin behind them.
 use crate::connection::Connection;
 use crate::connection::told::tell_gap;
-use crate::direction::{Following, Sought};
 use crate::fault::Fault;
 use crate::notice::{Behind, Notice, Sender};
 use crate::output::Output;
 use crate::side::Side;
+use crate::signs::Sought;
 use crate::sink::{Loss, SessionLine, Sink};
 use smq_packets::End;
-use smq_streams::{Missing, Stream, Why};
+use smq_streams::{Missing, Why};
 use std::alloc::AllocError;
 
 impl Connection {
@@ -34,8 +34,8 @@ impl Connection {
         output: &mut Output<S>,
         moment: u64,
     ) -> Result<(), Fault> {
-        let client = self.both.client.stream.opened();
-        let centre = self.both.centre.stream.opened();
+        let client = self.stream(Side::Client).opened();
+        let centre = self.stream(Side::Centre).opened();
         let side = match (client, centre) {
             (Some(one), Some(other)) if other < one => Side::Centre,
             (None, Some(_)) => Side::Centre,
@@ -51,12 +51,12 @@ impl Connection {
 
     /// The direction in which something won't come any more, and why; where both have such, the one whose next packet came first.
     fn lost(&mut self, moment: u64, why: Option<Why>) -> Option<(Side, Why)> {
-        let client = why_lost(&mut self.both.client.stream, moment, why);
-        let centre = why_lost(&mut self.both.centre.stream, moment, why);
+        let client = self.why_lost(Side::Client, moment, why);
+        let centre = self.why_lost(Side::Centre, moment, why);
         match (client, centre) {
             (Some(one), Some(other)) => {
-                let before = self.both.client.stream.first_packet();
-                if self.both.centre.stream.first_packet() < before {
+                let before = self.stream(Side::Client).first_packet();
+                if self.stream(Side::Centre).first_packet() < before {
                     Some((Side::Centre, other))
                 } else {
                     Some((Side::Client, one))
@@ -77,24 +77,22 @@ impl Connection {
         moment: u64,
         why: Why,
     ) -> Result<(), Fault> {
-        if self.both.of(side).stream.is_searching() {
-            if let Some(place) = self.go_on(output, side, true)? {
-                self.tell_going_on(output, side, place)?;
-                self.both.of_mut(side).stream.watch_anew(moment);
-                return Ok(());
-            }
+        if let Some(place) = self.go_on(output, side, true)? {
+            self.tell_going_on(output, side, place)?;
+            self.flow.watch_anew(side, moment);
+            return Ok(());
         }
-        if let Some(missing) = self.both.of_mut(side).stream.skip_gap() {
+        if let Some(missing) = self.flow.skip_gap(side) {
             let is_end = why == Why::Ended || why == Why::End;
             let sender = self.note_missing(output, side, missing, moment, why)?;
             let behind = match self.go_on(output, side, is_end)? {
                 Some(place) => {
-                    self.both.of_mut(side).sought = None;
+                    self.signs.of_mut(side).sought = None;
                     Behind::At(place, self.last)
                 }
                 None if is_end => Behind::Nothing,
                 None => {
-                    self.both.of_mut(side).sought = Some(Sought {
+                    self.signs.of_mut(side).sought = Some(Sought {
                         session: sender.session,
                     });
                     Behind::Sought
@@ -105,7 +103,7 @@ impl Connection {
                 self.tell_passed(output, side)?;
             }
         }
-        self.both.of_mut(side).stream.watch_anew(moment);
+        self.flow.watch_anew(side, moment);
         Ok(())
     }
 
@@ -145,11 +143,11 @@ impl Connection {
         moment: u64,
         why: Why,
     ) -> Result<(), Fault> {
-        if let Some(missing) = self.both.of(side).stream.missing_tail() {
+        if let Some(missing) = self.stream(side).missing_tail() {
             let sender = self.note_missing(output, side, missing, moment, why)?;
             tell_gap(output, sender, missing, Behind::Nothing)?;
         }
-        self.both.of_mut(side).stream.stop();
+        self.flow.stop(side);
         Ok(())
     }
 
@@ -160,20 +158,20 @@ impl Connection {
         side: Side,
         is_end: bool,
     ) -> Result<Option<u64>, Fault> {
-        let Some(found) = self.both.of_mut(side).stream.search(is_end)? else {
+        let Some(found) = self.flow.search(side, is_end)? else {
             return Ok(None);
         };
         self.settle(side, None)?;
-        if self.both.of(side).stream.is_behind_gap() {
-            let place = self.both.of(side.other()).top_before(found.number);
+        if self.stream(side).is_behind_gap() {
+            let top = self.stream(side.other()).top();
+            let place = self.signs.of(side.other()).top_before(found.number, top);
             self.settle(side.other(), Some(place))?;
             if self.has_rows {
                 self.begin_session(output, side, found.number, place)?;
             }
         }
-        let last = self.last;
-        self.both.of_mut(side).begin_session(last);
-        self.release(output, side, None)?;
+        self.flow.begin_session(side, self.last);
+        self.flow.put_all(output.alloc, side)?;
         Ok(Some(found.place))
     }
 
@@ -188,7 +186,7 @@ impl Connection {
         let session = output.next_session();
         self.last = session;
         self.has_rows = false;
-        self.both.of_mut(side.other()).following = Some(Following { session, place });
+        self.flow.follow(side.other(), session, place);
         self.lines.push_back(SessionLine {
             session,
             link: self.link,
@@ -209,8 +207,8 @@ impl Connection {
         side: Side,
         place: u64,
     ) -> Result<(), Fault> {
-        if let Some(sought) = self.both.of(side).sought {
-            self.both.of_mut(side).sought = None;
+        if let Some(sought) = self.signs.of(side).sought {
+            self.signs.of_mut(side).sought = None;
             output.tell(Notice::GoesOn {
                 sender: Sender {
                     session: sought.session,
@@ -230,7 +228,7 @@ impl Connection {
         output: &mut Output<S>,
         side: Side,
     ) -> Result<(), Fault> {
-        let count = self.both.of_mut(side).stream.take_passed();
+        let count = self.flow.take_passed(side);
         if count > 0 {
             let sender = self.label(side);
             output.tell(Notice::Passed { sender, count })?;
@@ -244,22 +242,20 @@ impl Connection {
         output: &mut Output<S>,
         side: Side,
     ) -> Result<(), Fault> {
-        if self.both.of(side).stream.is_searching() {
-            if let Some(place) = self.go_on(output, side, true)? {
-                self.tell_going_on(output, side, place)?;
-            }
+        if let Some(place) = self.go_on(output, side, true)? {
+            self.tell_going_on(output, side, place)?;
         }
         Ok(())
     }
-}
 
-/// Why what waits in a direction won't come any more, if it won't.
-fn why_lost(stream: &mut Stream, moment: u64, why: Option<Why>) -> Option<Why> {
-    if !stream.is_open() {
-        return None;
-    }
-    match why {
-        Some(why) => Some(why),
-        None => stream.is_lost(moment),
+    /// Why what waits in a direction won't come any more, if it won't.
+    fn why_lost(&mut self, side: Side, moment: u64, why: Option<Why>) -> Option<Why> {
+        if !self.stream(side).is_open() {
+            return None;
+        }
+        match why {
+            Some(why) => Some(why),
+            None => self.flow.is_lost(side, moment),
+        }
     }
 }

@@ -1,4 +1,9 @@
 //! The rows of a connection: which session each octet is of, and when it is written.
+ghost use Rattle.std.specs.Prelude.{◌≡◌, List, OnOk};
+ghost use Rattle.std.specs.Io.KnownBytes.{Appends};
+ghost use Rattle.smq_capture.specs.Rows.{AreParts, Part};
+ghost use Rattle.smq_capture.specs.Written.{parts_text};
+
 use crate::connection::Connection;
 use crate::fault::Fault;
 use crate::output::Output;
@@ -8,48 +13,14 @@ use crate::waiting::Waiting;
 use std::alloc::AllocError;
 
 impl Connection {
-    /// Puts rows of the octets that follow, with the number and the moment of the packet that filled a gap before them, or else of
-    /// their own.
-    pub(crate) fn release<S: Sink>(
-        &mut self,
-        output: &mut Output<S>,
-        sender: Side,
-        filled: Option<(u64, u64)>,
-    ) -> Result<(), Fault> {
-        for _ in 0..u64::MAX {
-            let Some(given) = self.both.of_mut(sender).stream.next_part(output.alloc)? else {
-                break;
-            };
-            let (number, moment) = match filled {
-                Some(packet) => packet,
-                None => (given.number, given.moment),
-            };
-            self.put(sender, given.place, given.octets, number, moment)?;
-        }
-        Ok(())
-    }
-
-    /// Puts a row behind the others of the connection.
-    pub(crate) fn put(
-        &mut self,
-        sender: Side,
-        place: u64,
-        octets: Vec<u8>,
-        number: u64,
-        moment: u64,
-    ) -> Result<(), AllocError> {
-        let moment = self.both.of_mut(sender).raise_moment(number, moment);
-        self.rows.put(sender, place, number, moment, octets)
-    }
-
     /// Writes the rows whose sessions are known: all of them where nothing waits that may begin another.
     pub(crate) fn write<S: Sink>(&mut self, output: &mut Output<S>) -> Result<(), Fault> {
-        if output.is_strict || !self.is_open() {
+        if output.is_strict || !self.flow.is_open() {
             self.settle(Side::Client, None)?;
             self.settle(Side::Centre, None)?;
         }
         for _ in 0..u64::MAX {
-            let Some(row) = self.rows.take() else {
+            let Some(row) = self.flow.take_row() else {
                 break;
             };
             self.write_row(output, &row)?;
@@ -58,12 +29,13 @@ impl Connection {
     }
 
     /// Writes a row, a part of it for each session.
-    fn write_row<S: Sink>(&mut self, output: &mut Output<S>, row: &Waiting) -> Result<(), Fault> {
+    fn write_row<S: Sink>(&mut self, output: &mut Output<S>, row: &Waiting) -> Result<(), Fault>
+        ensures text { OnOk result ((parts : List Part) × AreParts row.now parts
+            × Appends (S.contents output.old.sink) (S.contents output.new.sink) (parts_text self.old.link row.now parts)) }
+        ensures same { (self.new.link ≡ self.old.link) × (self.new.flow ≡ self.old.flow) }
+    {
         let mut parts = row.parts();
-        for _ in 0..u64::MAX {
-            let Some(part) = parts.next() else {
-                break;
-            };
+        'parts: while let Some(part) = parts.next() {
             self.note_packet(part.session, row.number());
             output.put(&Piece {
                 link: self.link,
@@ -77,7 +49,9 @@ impl Connection {
     }
 
     /// Takes note of a packet of a session.
-    pub(crate) fn note_packet(&mut self, session: u64, number: u64) {
+    pub(crate) fn note_packet(&mut self, session: u64, number: u64)
+        ensures { (self.new.link ≡ self.old.link) × (self.new.flow ≡ self.old.flow) }
+    {
         // (mostly it is of the last session; their numbers rise)
         let mut low: usize = 0;
         let mut high = self.lines.len().saturating_sub(1);
@@ -106,15 +80,15 @@ impl Connection {
         output: &mut Output<S>,
         is_end: bool,
     ) -> Result<(), Fault> {
-        if !is_end && !self.rows.is_empty() {
+        if !is_end && !self.flow.is_written() {
             return Ok(());
         }
         for _ in 0..self.lines.len() {
             match self.lines.front() {
                 Some(line)
                     if is_end
-                        || (line.session < self.both.client.session
-                            && line.session < self.both.centre.session) => {}
+                        || (line.session < self.flow.of(Side::Client).session
+                            && line.session < self.flow.of(Side::Centre).session) => {}
                 _ => break,
             }
             if let Some(line) = self.lines.pop_front() {
@@ -126,8 +100,7 @@ impl Connection {
 
     /// Tells the rows of a direction their sessions, in order, up to a place of it.
     pub(crate) fn settle(&mut self, side: Side, until: Option<u64>) -> Result<(), AllocError> {
-        let direction = self.both.of_mut(side);
-        if self.rows.settle(side, until, direction, self.last)? {
+        if self.flow.settle(side, until, self.last)? {
             self.has_rows = true;
         }
         Ok(())

@@ -39,20 +39,17 @@ impl Connection {
         why: Why,
     ) -> Result<(), Fault> {
         let sender = self.label(side);
-        if self.both.of(side).stream.first().is_none()
-            && self.both.of(side.other()).stream.end() > 0
-        {
+        if self.stream(side).first().is_none() && self.stream(side.other()).end() > 0 {
             output.tell(Notice::NoPacket(sender))?;
         }
-        if let Some(missing) = self.both.of(side).stream.missing_tail() {
+        if let Some(missing) = self.stream(side).missing_tail() {
             let sender = self.note_missing(output, side, missing, moment, why)?;
             tell_gap(output, sender, missing, Behind::Nothing)?;
         }
         self.tell_passed(output, side)?;
-        let direction = self.both.of(side);
-        let outside = direction.outside;
-        let cut = direction.cut;
-        let raised = direction.raised;
+        let outside = self.signs.of(side).outside;
+        let cut = self.signs.of(side).cut;
+        let raised = self.flow.of(side).raised;
         tell_packets(output, sender, About::Outside, outside)?;
         tell_packets(output, sender, About::Cut, cut)?;
         tell_packets(output, sender, About::Raised, raised)

@@ -148,7 +148,13 @@ impl<S: Sink + Drop> Sessions<S> {
         if let Some(connection) = self.open.get_mut(&ends) {
             connection.begin_by_syn(of_caller, sequence);
             connection.begin_by_syn(of_called, answer.sequence);
-            connection.take_syn_octets(&mut self.output, of_caller, number, syn_moment, octets)?;
+            connection.take_syn_octets(
+                &mut self.output,
+                of_caller,
+                number,
+                syn_moment,
+                octets.as_slice(),
+            )?;
         }
         Ok(())
     }

@@ -1,0 +1,40 @@
+-- What the definitions give for some known octets and rows of a direction.
+use Rattle.std.specs.Prelude.{◌≡◌, ℕ, false, List, [], ◌∷◌}
+use Rattle.smq_reassembly.specs.Octet.{Octet}
+use Rattle.smq_streams.specs.KnownCalls.{after_gap, before_gap, came}
+use Rattle.smq_capture.specs.declared.side.Side.TheVariants.{Client, Centre}
+use Rattle.smq_capture.specs.Flow.{AreParts, Ended, History, all_put, last_raised, nothing, raised, timed_of, with_gap, with_passed, with_put}
+use Rattle.smq_capture.specs.KnownRows.{five, two}
+
+-- an octet that a packet brought at a moment
+abbrev pub octet : ℕ → ℕ → Octet
+octet value moment = record { value = value; packet = record { number = 1; moment = moment }; begins = false }
+
+-- three octets, of which the last has an earlier moment
+abbrev pub three : List Octet
+three = octet 1 100 ∷ octet 2 200 ∷ octet 3 150 ∷ []
+
+-- an octet became a row, a gap up to place 9 was given up, one behind it was passed over, and the next became a row
+abbrev pub behind_gap : History
+behind_gap = with_put (octet 3 300 ∷ []) (with_passed (octet 2 200 ∷ []) (with_gap 9 100 (with_put (octet 1 100 ∷ []) nothing)))
+
+-- the first part of a direction, up to a gap that ends at a place
+abbrev pub ended : ℕ → List Ended
+ended until = record { pieces = came; part = before_gap; until = until } ∷ []
+
+pub record KnowsFlow : Type 0 where
+  -- moments never fall
+  pub moments : raised 0 three ≡ (1, 100) ∷ (2, 200) ∷ (3, 200) ∷ []
+  pub moments_from : raised 180 three ≡ (1, 180) ∷ (2, 200) ∷ (3, 200) ∷ []
+  pub last : last_raised 0 three ≡ 200
+  -- of rows of both ends those of one count, each octet with its row's moment
+  pub client : timed_of Client (two ∷ five [] ∷ []) ≡ (1, 1000) ∷ (2, 1000) ∷ (3, 1000) ∷ (4, 1000) ∷ (5, 1000) ∷ []
+  pub centre : timed_of Centre (two ∷ five [] ∷ []) ≡ (6, 1001) ∷ (7, 1001) ∷ []
+  -- octets become rows over all parts, in order, and those that are passed over don't
+  pub put : all_put behind_gap ≡ octet 1 100 ∷ octet 3 300 ∷ []
+  pub place : behind_gap.part.start.place ≡ 9
+  -- three octets came, then a gap of two, and the next part starts behind it; it doesn't within the gap, and the first starts at place 0
+  pub parts : AreParts came 5 (ended 5)
+  pub no_gap : AreParts came 4 (ended 4) → ⊥
+  pub no_place : AreParts came 6 (ended 5) → ⊥
+  pub no_start : AreParts came 1 [] → ⊥

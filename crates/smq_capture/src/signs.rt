@@ -1,0 +1,191 @@
+//! What numbers and flags of segments show of a direction beside its octets.
+ghost use Rattle.std.specs.Prelude.{◌≡◌, ◌<◌, ℕ, IfSome, IsSome, IsTrue, [], ◌∷◌, Some, None, false};
+
+use crate::ending::{fin_with, is_ended, is_reset};
+use crate::notice::Noted;
+use crate::probe::{Probe, may_be_probe};
+use crate::side::Side;
+use smq_streams::Stream;
+use std::alloc::{AllocError, Global};
+use std::collections::VecDeque;
+
+/// A packet, and the place behind the last octet that those before it had brought.
+#[derive(Clone, Copy)]
+struct Top {
+    number: u64,
+    before: u64,
+}
+
+/// A gap that was given up, behind which no PDU was seen to begin yet.
+#[derive(Clone, Copy)]
+pub(crate) struct Sought {
+    pub session: u64,
+}
+
+/// What is known of a direction beside its octets.
+#[derive(Drop)]
+pub(crate) struct Signs {
+    /// Whether a SYN, or the answer to one, told the first octet.
+    pub has_syn: bool,
+    /// While the other direction waits: what packets of this one brought.
+    tops: VecDeque<Top>,
+    pub sought: Option<Sought>,
+    /// The place of a FIN.
+    fin: Option<u64>,
+    /// The place behind the last octet that the other end acknowledged.
+    acknowledged: u64,
+    probe: Option<Probe>,
+    pub outside: Noted,
+    pub cut: Noted,
+}
+
+impl Signs {
+    /// Nothing is known.
+    pub(crate) fn new(alloc: Global) -> Signs {
+        Signs {
+            has_syn: false,
+            tops: VecDeque::new(alloc),
+            sought: None,
+            fin: None,
+            acknowledged: 0,
+            probe: None,
+            outside: Noted::none(),
+            cut: Noted::none(),
+        }
+    }
+
+    /// Takes note that the other end has all octets before a place, if there is one.
+    pub(crate) fn note_acknowledged(&mut self, place: Option<u64>) {
+        self.acknowledged = self.acknowledged.max(place.unwrap_or(0));
+    }
+
+    /// Sets a segment aside that may be a probe which keeps the connection alive: it has one octet, which the other end acknowledged
+    /// before, and octets between it and all captured ones are missing. The octet of a probe is garbage (RFC 9293, 3.8.4).
+    pub(crate) fn sets_aside(&mut self, stream: &Stream, sequence: u32, octets: &[u8]) -> bool
+        ensures aside { IsTrue result → IsSome self.new.probe }
+        ensures octet { IsTrue result → IfSome self.new.probe (λ p. (octets.now ≡ p.octet ∷ []) × (p.sequence ≡ sequence)
+            × (p.place < self.old.acknowledged)) }
+        ensures same { result ≡ false → self.new ≡ self.old }
+    {
+        let [octet] = octets else {
+            return false;
+        };
+        let Some(place) = stream.place(sequence) else {
+            return false;
+        };
+        let is_probe = may_be_probe(place, stream.top(), self.acknowledged);
+        if is_probe {
+            self.probe = Some(Probe {
+                place,
+                sequence,
+                octet: *octet,
+            });
+        }
+        is_probe
+    }
+
+    /// The segment that was set aside, once its octet is the next; none where another segment had the octet.
+    pub(crate) fn take_aside(&mut self, next: u64) -> Option<Probe>
+        ensures due { IfSome result (λ p. (self.old.probe ≡ Some p) × (p.place ≡ next) × (self.new.probe ≡ None)) }
+        ensures early { (p : Probe) → self.old.probe ≡ Some p → next < p.place → self.new ≡ self.old }
+    {
+        let probe = self.probe?;
+        if next < probe.place {
+            return None;
+        }
+        self.probe = None;
+        if next == probe.place {
+            Some(probe)
+        } else {
+            None
+        }
+    }
+
+    /// Takes note of a FIN at a place.
+    pub(crate) fn note_fin(&mut self, place: Option<u64>)
+        ensures { (fin : ℕ) → self.old.fin ≡ Some fin → self.new ≡ self.old }
+    {
+        self.fin = fin_with(self.fin, place);
+    }
+
+    /// Whether all octets of the stream up to a FIN came.
+    pub(crate) fn is_finished(&self, stream: &Stream) -> bool
+        ensures { IsTrue result → (self.now.fin ≡ Some stream.now.order.next) × (stream.now.order.waiting ≡ []) }
+    {
+        is_ended(self.fin, stream.next(), stream.has_gap())
+    }
+
+    /// Takes note of what a packet brought while the other direction waits, or forgets that.
+    pub(crate) fn note_top(
+        &mut self,
+        number: u64,
+        before: u64,
+        top: u64,
+        waits: bool,
+    ) -> Result<(), AllocError> {
+        if !waits {
+            self.tops.clear();
+            return Ok(());
+        }
+        if before < top {
+            self.tops.push_back(Top { number, before })?;
+        }
+        Ok(())
+    }
+
+    /// The place behind all octets that packets before one have, where all have those up to the top; it isn't before the other direction
+    /// waits.
+    pub(crate) fn top_before(&self, number: u64, top: u64) -> u64 {
+        let mut low: usize = 0;
+        let mut high = self.tops.len();
+        for _ in 0..64 {
+            if low >= high {
+                break;
+            }
+            let middle = low.saturating_add(high.saturating_sub(low) / 2);
+            match self.tops.get(middle) {
+                Some(top) if top.number < number => low = middle.saturating_add(1),
+                _ => high = middle,
+            }
+        }
+        match self.tops.get(low) {
+            Some(top) => top.before,
+            None => top,
+        }
+    }
+
+    /// How much memory it takes, at most.
+    pub(crate) fn weight(&self) -> u64 {
+        (self.tops.len() as u64).saturating_mul(16)
+    }
+}
+
+/// Whether a reset with this number ends the connection, by the stream of its sender.
+pub(crate) fn is_reset_by(stream: &Stream, sequence: u32) -> bool {
+    is_reset(stream.place(sequence), stream.next())
+}
+
+/// What is known of both directions, by the end that sends.
+#[derive(Drop)]
+pub(crate) struct Both {
+    pub client: Signs,
+    pub centre: Signs,
+}
+
+impl Both {
+    /// Of the direction of an end.
+    pub(crate) fn of(&self, side: Side) -> &Signs {
+        match side {
+            Side::Client => &self.client,
+            Side::Centre => &self.centre,
+        }
+    }
+
+    /// Of the direction of an end, to be changed.
+    pub(crate) fn of_mut(&mut self, side: Side) -> &mut Signs {
+        match side {
+            Side::Client => &mut self.client,
+            Side::Centre => &mut self.centre,
+        }
+    }
+}
