@@ -229,7 +229,7 @@ def see_hosts(count):
                                     command, ":::", *links], room, HOME=room)
                 count.see("links over ssh: two hosts did all", (0, set(addresses), len(links)),
                           (status, {it.split()[2] for it in said.splitlines() if len(it.split()) == 4}, len(said.splitlines())))
-                _, added = run([f"{TOOLS}/add-reports", *(f"{it}.report" for it in links)], room)
+                _, added = run([count.program, "add", *(f"{it}.report" for it in links)], room)
                 with open(f"{SIX}/report.csv", encoding="ascii") as file:
                     count.see("links over ssh: they add up", file.read(), added)
         except subprocess.CalledProcessError as fault:

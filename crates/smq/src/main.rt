@@ -1,5 +1,5 @@
 //! Writes the script of packet captures. Plays a script of captured pieces, and reports what became of the messages, be it of any length,
-//! writes a line for each message or receipt, checks the tables of it, or answers questions among its rows as they come.
+//! writes a line for each message or receipt, checks the tables of it, or answers questions among its rows as they come. Adds reports.
 #![tactic(auto)]
 
 ghost use Rattle.std.specs.IoError.{error_kind};
@@ -8,6 +8,7 @@ ghost use Rattle.std.specs.declared.io.ErrorKind.TheVariants as io_kind;
 ghost use Rattle.clap.specs.Words.{kind_of};
 ghost use Rattle.smq.specs.Statuses.{bad_words_status, fault_status, run_status};
 
+mod add;
 mod capture;
 mod capture_rows;
 mod capture_words;
@@ -23,6 +24,7 @@ mod timed_input;
 mod window_length;
 mod window_rows;
 
+use add::run_add;
 use capture::run_with_captures;
 use capture_words::has_words;
 use clap::error::ErrorKind;
@@ -141,6 +143,9 @@ where
         window,
         captures,
     } = order;
+    if let Task::Add { of_periods } = task {
+        return run_add(rt, of_periods, captures.paths.as_slice());
+    }
     let progress = if terminals.errors && tells_progress(task) && !captures.is_quiet {
         Progress::begin(rt, terminals.output)
     } else {
@@ -353,7 +358,7 @@ where
                 None => BAD_INPUT,
             };
         }
-        Task::Capture => return BAD_INPUT,
+        Task::Add { of_periods: _ } | Task::Capture => return BAD_INPUT,
         Task::Check => {
             let checked = write_check(rt, settings, &mut counted, &mut writer);
             progress.take_away(rt);

@@ -97,9 +97,9 @@ taken_format parser takes v h = named_among format_name (format.Csv ∷ format.T
 abbrev pub IsFlagText : Text → Type 0
 IsFlagText v = (b : Bool) × (bool_text b ≡ v)
 
--- whether an argument is `--strict` or `--quiet`
+-- whether an argument is `--strict`, `--quiet` or `--periods`
 abbrev pub is_flag : Text → Bool
-is_flag id = bytes_eq id (codes "strict") || bytes_eq id (codes "quiet")
+is_flag id = bytes_eq id (codes "strict") || bytes_eq id (codes "quiet") || bytes_eq id (codes "periods")
 
 -- what is known of the value of an argument: NAME's has N, a format is named, and a flag is given or not
 abbrev pub Known : (Text → Type 0) → Text → Text → Type 0
@@ -169,7 +169,7 @@ name_keeps names takes = set_keeps (Known IsPickName) (name_built names) (name_k
 pub optional_keeps : (names : ValueParser) → TakesNames pick_names names → Keeps (Known IsPickName) (set_once (optional_built names))
 optional_keeps names takes = set_keeps (Known IsPickName) (optional_built names) (name_known names takes)
 
-known_flag_keeps : (N : Text → Type 0) (id : Text) → bytes_eq id (codes "NAME") ≡ false → bytes_eq id (codes "format") ≡ false
+pub known_flag_keeps : (N : Text → Type 0) (id : Text) → bytes_eq id (codes "NAME") ≡ false → bytes_eq id (codes "format") ≡ false
     → Keeps (Known N) (flagged (filled (flag_rule id)))
 known_flag_keeps N id name shape =
     flag_keeps (Known N) (filled (flag_rule id)) (λ v h. flag_text_known N id v name shape (λ e. taken_flag v h))
@@ -195,12 +195,14 @@ reading_keep N rest keep = (
   ),
 )
 
+-- a flag that isn't given
+pub not_given : (N : Text → Type 0) (id : Text) → bytes_eq id (codes "NAME") ≡ false → bytes_eq id (codes "format") ≡ false
+    → Known N id (codes "false")
+not_given N id name shape = flag_text_known N id (codes "false") name shape (λ e. (false, refl))
+
 pub reading_default : (N : Text → Type 0) (rest : List Rule) → DefaultsFit (Known N) rest → DefaultsFit (Known N) (reading_built rest)
 reading_default N rest fit =
-    (tt, ((not_given (codes "strict") refl refl, tt), ((not_given (codes "quiet") refl refl, tt), (tt, (tt, fit)))))
-  where
-    not_given : (id : Text) → bytes_eq id (codes "NAME") ≡ false → bytes_eq id (codes "format") ≡ false → Known N id (codes "false")
-    not_given id name shape = flag_text_known N id (codes "false") name shape (λ e. (false, refl))
+    (tt, ((not_given N (codes "strict") refl refl, tt), ((not_given N (codes "quiet") refl refl, tt), (tt, (tt, fit)))))
 
 -- the rules of captures that are read behind rows, before others
 abbrev captures_built : List Rule → List Rule

@@ -13,10 +13,10 @@ use Rattle.smq_report.specs.declared.pick.Output.TheVariants as output
 use Rattle.smq_report.specs.declared.pick.Pick.{Pick}
 use Rattle.smq_report.specs.declared.pick.Pick.TheVariants as pick
 use Rattle.smq_words.specs.declared.orders.Task.{Task}
-use Rattle.smq_words.specs.declared.orders.Task.TheVariants.{Capture, Count, Follow, Run, Total, Window}
-use Rattle.smq_words.specs.Words.{Asks, CaptureTexts, CountingTexts, HasCaptures, HasFlag, IsQueried, Say, TakesNames, capture_app, columns_rule, count_app, counting_in, follow_app, format_names, length_rule, name_rule, named_app, option_rule, optional_rule, options_app, repeated_rule, required_link_rule, settings_app, subcommand_name, values_of, window_app}
+use Rattle.smq_words.specs.declared.orders.Task.TheVariants.{Add, Capture, Count, Follow, Run, Total, Window}
+use Rattle.smq_words.specs.Words.{Asks, CaptureTexts, CountingTexts, HasCaptures, HasFlag, IsQueried, Say, TakesNames, add_app, capture_app, columns_rule, count_app, counting_in, follow_app, format_names, length_rule, name_rule, named_app, option_rule, optional_rule, options_app, periods_rule, repeated_rule, reports_rule, required_link_rule, settings_app, subcommand_name, values_of, window_app}
 use Rattle.smq_words.proofs.LevelLemmas.{Fit, IfHas, append_keeps, first_fit, given_fit, level_fit, read_fit, set_keeps, some_kind}
-use Rattle.smq_words.proofs.ArgumentLemmas.{IsFlagText, IsFormatName, IsPickName, Known, Nameless, captures_default, captures_keep, file_built, flag_known, format_keeps, format_known, help_built, help_default, help_keep, is_flag, known_read, live_built, live_keep, name_keeps, none_known, of_known, optional_keeps, other_known, pick_known, reading_default, reading_keep, settings_keeps, window_built, window_keep}
+use Rattle.smq_words.proofs.ArgumentLemmas.{IsFlagText, IsFormatName, IsPickName, Known, Nameless, captures_default, captures_keep, file_built, flag_known, format_keeps, format_known, help_built, help_default, help_keep, is_flag, known_flag_keeps, known_read, live_built, live_keep, name_keeps, none_known, not_given, of_known, optional_keeps, other_known, pick_known, reading_default, reading_keep, settings_keeps, window_built, window_keep}
 
 abbrev pub settings_built : Text → Shape
 settings_built name = built_leaf (record (settings_app name).top { no_binary_name = true })
@@ -41,6 +41,9 @@ count_built = built_leaf (record count_app.top { no_binary_name = true })
 
 abbrev pub length_built : Shape
 length_built = built_leaf (record window_app.top { no_binary_name = true })
+
+abbrev pub add_built : Shape
+add_built = built_leaf (record add_app.top { no_binary_name = true })
 
 -- words ask for a task
 abbrev pub Asked : Option (Text × List Row) → Type 0
@@ -232,3 +235,18 @@ window_asked words clean =
     ) (tt, help_default Nameless) words clean in
     let given = given_fit (Known Nameless) (codes "window") rows level.0 (is_required (is_given (codes "window") rows) level.1) in
     task_asked Nameless Window rows level.0 (given.0, given.1)
+
+pub add_asked : (words : List Text) → level_fault add_built [] nothing_held words false [] ≡ [] → Asked (Some (rows_at add_built words))
+add_asked words clean =
+    let s = add_built in
+    let rows = rows_after s.rules [] words in
+    let level = level_fit (Known Nameless) s (
+      known_flag_keeps Nameless (codes "periods") refl refl,
+      (
+        append_keeps (Known Nameless) (with_index 1 (filled reports_rule)) (λ v h. other_known Nameless (codes "FILE") v refl refl refl),
+        help_keep Nameless,
+      ),
+    ) ((not_given Nameless (codes "periods") refl refl, tt), (tt, help_default Nameless)) words clean in
+    let given = given_fit (Known Nameless) (codes "FILE") rows level.0 (is_required (is_given (codes "FILE") rows) level.1) in
+    let periods = flag_said Nameless (codes "periods") refl rows level.0 in
+    task_asked Nameless (Add periods.0) rows level.0 (periods.1, (given.0, given.1))

@@ -20,12 +20,12 @@ use Rattle.smq_report.specs.declared.pick.Pick.TheVariants as pick
 use Rattle.smq_report.specs.declared.pick.Query.{Query}
 use Rattle.smq_words.specs.declared.orders.Order.{Order}
 use Rattle.smq_words.specs.declared.orders.Task.{Task}
-use Rattle.smq_words.specs.declared.orders.Task.TheVariants.{Capture, Check, Count, Follow, Run, Total, Window}
-use Rattle.smq_words.specs.Words.{Asks, CaptureTexts, CountingTexts, HasCaptures, HasFormat, IsAsked, Say, TakesNames, counting_in, format_names, no_counting, program, run_name, subcommand_name, texts_of_captures, texts_of_counting}
+use Rattle.smq_words.specs.declared.orders.Task.TheVariants.{Add, Capture, Check, Count, Follow, Run, Total, Window}
+use Rattle.smq_words.specs.Words.{Asks, CaptureTexts, CountingTexts, HasCaptures, HasFlag, HasFormat, IsAsked, Say, TakesNames, counting_in, format_names, no_counting, program, run_name, subcommand_name, texts_of_captures, texts_of_counting}
 use Rattle.smq_words.specs.within.Tasks.{counting_named, task_named}
 use Rattle.smq_words.proofs.LevelLemmas.{neither, some_kind}
 use Rattle.smq_words.proofs.ArgumentLemmas.{apart}
-use Rattle.smq_words.proofs.EnteredLemmas.{Asked, capture_asked, capture_built, count_asked, count_built, follow_asked, follow_built, length_built, options_built, query_asked, query_built, report_asked, settings_asked, settings_built, total_asked, total_built, window_asked}
+use Rattle.smq_words.proofs.EnteredLemmas.{Asked, add_asked, add_built, capture_asked, capture_built, count_asked, count_built, follow_asked, follow_built, length_built, options_built, query_asked, query_built, report_asked, settings_asked, settings_built, total_asked, total_built, window_asked}
 
 -- ---- the subcommand: it is no `help`, which is refused with help
 
@@ -126,8 +126,8 @@ walk_stops names formats ns (word ∷ words) w clean stops =
 -- ---- the words of the program
 
 -- the subcommand that a word names, by a test of each
-abbrev named_by : ValueParser → ValueParser → Bool → Bool → Bool → Bool → Bool → Bool → Bool → Bool → Bool → Bool → Bool → Option Shape
-named_by names formats capture report query check follow total count messages receipts window help =
+abbrev named_by : ValueParser → ValueParser → Bool → Bool → Bool → Bool → Bool → Bool → Bool → Bool → Bool → Bool → Bool → Bool → Option Shape
+named_by names formats capture report query check follow total count messages receipts window add help =
     cond (capture || false) (Some capture_built)
     (cond (report || false) (Some (options_built (codes "report") formats))
     (cond (query || false) (Some (query_built names formats))
@@ -137,7 +137,8 @@ named_by names formats capture report query check follow total count messages re
     (cond (count || false) (Some count_built)
     (cond (messages || false) (Some (settings_built (codes "messages")))
     (cond (receipts || false) (Some (settings_built (codes "receipts")))
-    (cond (window || false) (Some length_built) (cond (help || false) (Some (built_leaf help_shape)) None))))))))))
+    (cond (window || false) (Some length_built)
+    (cond (add || false) (Some add_built) (cond (help || false) (Some (built_leaf help_shape)) None)))))))))))
 
 -- what a subcommand makes of the words after its name
 abbrev entered_at : List Text → Option Shape → Option (Text × List Row)
@@ -150,33 +151,35 @@ missing : (names formats : ValueParser) (rows : List Row) → check_fault (top_b
 missing names formats rows clean = some_kind {k = kind.MissingSubcommand} {ks = []} clean
 
 by_name : (names formats : ValueParser) → TakesNames pick_names names → TakesNames format_names formats
-    → (words : List Text) (rows : List Row) (capture report query check follow total count messages receipts window help : Bool)
-    → help ≡ false → below_fault words (named_by names formats capture report query check follow total count messages receipts window help) ≡ []
+    → (words : List Text) (rows : List Row) (capture report query check follow total count messages receipts window add help : Bool)
+    → help ≡ false → below_fault words (named_by names formats capture report query check follow total count messages receipts window add help) ≡ []
     → check_fault (top_built names formats) rows
-    (is_some (entered_at words (named_by names formats capture report query check follow total count messages receipts window help))) ≡ []
-    → Asked (entered_at words (named_by names formats capture report query check follow total count messages receipts window help))
-by_name names formats takes_names takes_formats words rows true report query check follow total count messages receipts window help h clean checks =
+    (is_some (entered_at words (named_by names formats capture report query check follow total count messages receipts window add help))) ≡ []
+    → Asked (entered_at words (named_by names formats capture report query check follow total count messages receipts window add help))
+by_name names formats takes_names takes_formats words rows true report query check follow total count messages receipts window add help h clean checks =
     capture_asked words clean
-by_name names formats takes_names takes_formats words rows false true query check follow total count messages receipts window help h clean checks =
+by_name names formats takes_names takes_formats words rows false true query check follow total count messages receipts window add help h clean checks =
     report_asked formats takes_formats words clean
-by_name names formats takes_names takes_formats words rows false false true check follow total count messages receipts window help h clean checks =
+by_name names formats takes_names takes_formats words rows false false true check follow total count messages receipts window add help h clean checks =
     query_asked names formats takes_names takes_formats words clean
-by_name names formats takes_names takes_formats words rows false false false true follow total count messages receipts window help h clean checks =
+by_name names formats takes_names takes_formats words rows false false false true follow total count messages receipts window add help h clean checks =
     settings_asked Check (λ rows. tt) words clean
-by_name names formats takes_names takes_formats words rows false false false false true total count messages receipts window help h clean checks =
+by_name names formats takes_names takes_formats words rows false false false false true total count messages receipts window add help h clean checks =
     follow_asked formats takes_formats words clean
-by_name names formats takes_names takes_formats words rows false false false false false true count messages receipts window help h clean checks =
+by_name names formats takes_names takes_formats words rows false false false false false true count messages receipts window add help h clean checks =
     total_asked names formats takes_names takes_formats words clean
-by_name names formats takes_names takes_formats words rows false false false false false false true messages receipts window help h clean checks =
+by_name names formats takes_names takes_formats words rows false false false false false false true messages receipts window add help h clean checks =
     count_asked words clean
-by_name names formats takes_names takes_formats words rows false false false false false false false true receipts window help h clean checks =
+by_name names formats takes_names takes_formats words rows false false false false false false false true receipts window add help h clean checks =
     settings_asked (Total output.Messages) (λ rows. tt) words clean
-by_name names formats takes_names takes_formats words rows false false false false false false false false true window help h clean checks =
+by_name names formats takes_names takes_formats words rows false false false false false false false false true window add help h clean checks =
     settings_asked (Total output.Receipts) (λ rows. tt) words clean
-by_name names formats takes_names takes_formats words rows false false false false false false false false false true help h clean checks =
+by_name names formats takes_names takes_formats words rows false false false false false false false false false true add help h clean checks =
     window_asked words clean
-by_name names formats takes_names takes_formats words rows false false false false false false false false false false true h clean checks = cc
-by_name names formats takes_names takes_formats words rows false false false false false false false false false false false h clean checks =
+by_name names formats takes_names takes_formats words rows false false false false false false false false false false true help h clean checks =
+    add_asked words clean
+by_name names formats takes_names takes_formats words rows false false false false false false false false false false false true h clean checks = cc
+by_name names formats takes_names takes_formats words rows false false false false false false false false false false false false h clean checks =
     absurd (missing names formats rows checks)
 
 by_stop : (names formats : ValueParser) → TakesNames pick_names names → TakesNames format_names formats
@@ -189,7 +192,7 @@ by_stop names formats takes_names takes_formats rows (Some p) no_help clean chec
     (bytes_eq (codes "report") p.0) (bytes_eq (codes "query") p.0)
     (bytes_eq (codes "check") p.0) (bytes_eq (codes "follow") p.0) (bytes_eq (codes "total") p.0) (bytes_eq (codes "count") p.0)
     (bytes_eq (codes "messages") p.0)
-    (bytes_eq (codes "receipts") p.0) (bytes_eq (codes "window") p.0) (bytes_eq (codes "help") p.0)
+    (bytes_eq (codes "receipts") p.0) (bytes_eq (codes "window") p.0) (bytes_eq (codes "add") p.0) (bytes_eq (codes "help") p.0)
     (not_named (bytes_eq (codes "help") p.0) refl) clean checks
   where
     not_named : (b : Bool) → bytes_eq (codes "help") p.0 ≡ b → b ≡ false
@@ -218,26 +221,28 @@ words_ask names formats takes_names takes_formats words clean =
 same_query : (a b : Query) → a.pick ≡ b.pick → a.format ≡ b.format → a ≡ b
 same_query a b pick format = ap₂ (λ (x : Pick) (f : Format). record { pick = x; format = f }) pick format
 
-run_is : (query : Query) (x : Pick) → query.pick ≡ x → task_named (subcommand_name (Run query)) query ≡ Run query
-run_is query pick.All is = rw is refl
-run_is query (pick.View view) is = rw is refl
-run_is query (pick.List list) is = rw is refl
+run_is : (query : Query) (of_periods : Bool) (x : Pick) → query.pick ≡ x → task_named (subcommand_name (Run query)) query of_periods ≡ Run query
+run_is query of_periods pick.All is = rw is refl
+run_is query of_periods (pick.View view) is = rw is refl
+run_is query of_periods (pick.List list) is = rw is refl
 
--- what the name of a task's subcommand and the query of its arguments give
-task_is : (task : Task) (rows : List Row) (query : Query)
+-- what the name of a task's subcommand, the query of its arguments and whether they are of periods give
+task_is : (task : Task) (rows : List Row) (query : Query) (of_periods : Bool)
     → ((x : Pick) → first_of (codes "NAME") rows ≡ pick_name x → query.pick ≡ x)
-    → ((f : Format) → HasFormat rows f → query.format ≡ f) → Say rows task → task_named (subcommand_name task) query ≡ task
-task_is (Run asked) rows query picked formed say =
-    rw (same_query query asked (picked asked.pick say.0) (formed asked.format say.1)) (run_is asked asked.pick refl)
-task_is Check rows query picked formed say = refl
-task_is (Follow f) rows query picked formed say = ap (λ f. Follow f) (formed f say)
-task_is (Total (output.Report asked)) rows query picked formed say =
+    → ((f : Format) → HasFormat rows f → query.format ≡ f) → ((given : Bool) → HasFlag (codes "periods") rows given → of_periods ≡ given)
+    → Say rows task → task_named (subcommand_name task) query of_periods ≡ task
+task_is (Run asked) rows query of_periods picked formed flagged say =
+    rw (same_query query asked (picked asked.pick say.0) (formed asked.format say.1)) (run_is asked of_periods asked.pick refl)
+task_is Check rows query of_periods picked formed flagged say = refl
+task_is (Follow f) rows query of_periods picked formed flagged say = ap (λ f. Follow f) (formed f say)
+task_is (Total (output.Report asked)) rows query of_periods picked formed flagged say =
     ap (λ q. Total (output.Report q)) (same_query query asked (picked asked.pick say.0) (formed asked.format say.1))
-task_is (Total output.Messages) rows query picked formed say = refl
-task_is (Total output.Receipts) rows query picked formed say = refl
-task_is Count rows query picked formed say = refl
-task_is Capture rows query picked formed say = refl
-task_is Window rows query picked formed say = refl
+task_is (Total output.Messages) rows query of_periods picked formed flagged say = refl
+task_is (Total output.Receipts) rows query of_periods picked formed flagged say = refl
+task_is Count rows query of_periods picked formed flagged say = refl
+task_is (Add given) rows query of_periods picked formed flagged say = ap (λ p. Add p) (flagged given say.0)
+task_is Capture rows query of_periods picked formed flagged say = refl
+task_is Window rows query of_periods picked formed flagged say = refl
 
 -- what the name of a task's subcommand and its arguments say of counting
 counting_is : (task : Task) (rows : List Row) → counting_named (subcommand_name task) rows ≡ counting_in rows task
@@ -253,6 +258,7 @@ counting_is (Total (output.Report asked)) rows = refl
 counting_is (Total output.Messages) rows = refl
 counting_is (Total output.Receipts) rows = refl
 counting_is Count rows = refl
+counting_is (Add of_periods) rows = refl
 counting_is Capture rows = refl
 counting_is Window rows = refl
 
@@ -278,15 +284,16 @@ second_is None name_of matched = refl
 second_is (Some x) name_of matched = refl
 
 -- the task for which the matches of a subcommand ask
-pub asked_task : (name : Text) (rows : List Row) (query : Query)
+pub asked_task : (name : Text) (rows : List Row) (query : Query) (of_periods : Bool)
     → ((x : Pick) → first_of (codes "NAME") rows ≡ pick_name x → query.pick ≡ x)
     → ((f : Format) → HasFormat rows f → query.format ≡ f)
+    → ((given : Bool) → HasFlag (codes "periods") rows given → of_periods ≡ given)
     → (task : Task) (path window : Option Text) (counting : CountingTexts) (captures : CaptureTexts)
-    → Asks (Some (name, rows)) task path window counting captures → task_named name query ≡ task
-asked_task name rows query picked formed task path window counting captures asks =
+    → Asks (Some (name, rows)) task path window counting captures → task_named name query of_periods ≡ task
+asked_task name rows query of_periods picked formed flagged task path window counting captures asks =
     let here : rows ≡ asks.rows = ap rows_in asks.enters in
-    ap (λ n. task_named n query) (ap name_in asks.enters)
-    ∙ task_is task rows query picked formed (subst (λ rs. Say rs task) (sym here) asks.say)
+    ap (λ n. task_named n query of_periods) (ap name_in asks.enters)
+    ∙ task_is task rows query of_periods picked formed flagged (subst (λ rs. Say rs task) (sym here) asks.say)
 
 -- what they say of captures
 pub asked_captures : (name : Text) (rows : List Row) (task : Task) (path window : Option Text) (counting : CountingTexts)

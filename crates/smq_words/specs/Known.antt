@@ -13,7 +13,7 @@ use Rattle.smq_report.specs.declared.pick.Output.TheVariants.{Messages, Receipts
 use Rattle.smq_report.specs.declared.pick.Query.{Query}
 use Rattle.smq_report.specs.Picks.{pick_names}
 use Rattle.smq_words.specs.declared.orders.Task.{Task}
-use Rattle.smq_words.specs.declared.orders.Task.TheVariants.{Capture, Check, Count, Follow, Run, Total, Window}
+use Rattle.smq_words.specs.declared.orders.Task.TheVariants.{Add, Capture, Check, Count, Follow, Run, Total, Window}
 use Rattle.smq_words.specs.Words.{Asks, CaptureTexts, CountingTexts, format_names, format_rule, link_rule, no_counting, program, settings_rule, subcommand_name, version_text}
 
 -- what is asked of a report, and in which format
@@ -196,3 +196,13 @@ pub record KnowsWindow : Type 0 where
   pub settings : HasFault (codes "window" ∷ codes "15m" ∷ codes "--settings" ∷ codes "p" ∷ []) (UnknownArgument ∷ [])
   pub quiet : HasFault (codes "window" ∷ codes "15m" ∷ codes "--quiet" ∷ []) (UnknownArgument ∷ [])
   pub check : HasFault (codes "check" ∷ codes "--window" ∷ codes "5m" ∷ []) (UnknownArgument ∷ [])
+
+-- words of `add`: it takes `--periods` and one report or more, and no settings
+pub record KnowsAdd : Type 0 where
+  pub two : HasFault (codes "add" ∷ codes "a" ∷ codes "b" ∷ []) []
+  pub two_asked : AskWith (codes "add" ∷ codes "a" ∷ codes "b" ∷ []) (Add false) None (captures_at (codes "a" ∷ codes "b" ∷ []) [])
+  pub periods : HasFault (codes "add" ∷ codes "--periods" ∷ codes "a" ∷ []) []
+  pub periods_asked : AskWith (codes "add" ∷ codes "--periods" ∷ codes "a" ∷ []) (Add true) None (captures_at (codes "a" ∷ []) [])
+  pub no_report : HasFault (codes "add" ∷ codes "--periods" ∷ []) (MissingRequiredArgument ∷ [])
+  pub settings : HasFault (codes "add" ∷ codes "--settings" ∷ codes "p" ∷ codes "a" ∷ []) (UnknownArgument ∷ [])
+  pub report : HasFault (codes "report" ∷ codes "--periods" ∷ []) (UnknownArgument ∷ [])

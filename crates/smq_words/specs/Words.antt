@@ -22,7 +22,7 @@ use Rattle.smq_words.specs.declared.orders.Captures.{Captures}
 use Rattle.smq_words.specs.declared.orders.Counting.{Counting}
 use Rattle.smq_words.specs.declared.orders.Order.{Order}
 use Rattle.smq_words.specs.declared.orders.Task.{Task}
-use Rattle.smq_words.specs.declared.orders.Task.TheVariants.{Capture, Check, Count, Follow, Run, Total, Window}
+use Rattle.smq_words.specs.declared.orders.Task.TheVariants.{Add, Capture, Check, Count, Follow, Run, Total, Window}
 
 -- ---- the subcommands
 
@@ -45,6 +45,7 @@ subcommand_name Check = codes "check"
 subcommand_name (Follow format) = codes "follow"
 subcommand_name (Total asked) = total_name asked
 subcommand_name Count = codes "count"
+subcommand_name (Add of_periods) = codes "add"
 subcommand_name Capture = codes "capture"
 subcommand_name Window = codes "window"
 
@@ -131,6 +132,14 @@ quiet_rule = flag_rule (codes "quiet")
 abbrev pub file_rule : Rule
 file_rule = record (new_rule (codes "FILE")) { action = Some Append }
 
+-- `--periods`, a flag
+abbrev pub periods_rule : Rule
+periods_rule = flag_rule (codes "periods")
+
+-- REPORT, which comes once or more; its id is `FILE`
+abbrev pub reports_rule : Rule
+reports_rule = record (new_rule (codes "FILE")) { action = Some Append; value_names = 1; required = true }
+
 -- LENGTH, which is required and has one value, any text; its id is `window`
 abbrev pub length_rule : Rule
 length_rule = record (new_rule (codes "window")) { action = Some Set; value_names = 1; required = true }
@@ -192,6 +201,10 @@ capture_app =
 abbrev pub window_app : App
 window_app = with_rule (new_app (codes "window")) length_rule
 
+-- `add`: whether its reports are of periods, and the reports
+abbrev pub add_app : App
+add_app = with_rule (with_rule (new_app (codes "add")) periods_rule) reports_rule
+
 -- the program's version
 abbrev pub version_text : Text
 version_text = codes "0.23.0"
@@ -211,14 +224,15 @@ first_program names formats =
     (named_app (codes "query") (name_rule names) formats).top) (settings_app (codes "check")).top)
     (follow_app formats).top
 
--- a program, and then the subcommands that take any number of rows
+-- a program, and then the subcommands that take any number of rows, or reports
 abbrev pub with_any_length : ValueParser → ValueParser → App → App
 with_any_length names formats app =
     with_subcommand
     (with_subcommand
     (with_subcommand
+    (with_subcommand
     (with_subcommand (with_subcommand app (named_app (codes "total") (optional_rule names) formats).top) count_app.top)
-    (settings_app (codes "messages")).top) (settings_app (codes "receipts")).top) window_app.top
+    (settings_app (codes "messages")).top) (settings_app (codes "receipts")).top) window_app.top) add_app.top
 
 -- the program, with all its subcommands
 abbrev pub program : ValueParser → ValueParser → App
@@ -247,6 +261,10 @@ HasFormat rows format = unwrap_or (first_of (codes "format") rows) (codes "csv")
 abbrev pub IsQueried : List Row → Query → Type 0
 IsQueried rows query = (first_of (codes "NAME") rows ≡ pick_name query.pick) × HasFormat rows query.format
 
+-- whether a flag is given
+abbrev pub HasFlag : Text → List Row → Bool → Type 0
+HasFlag id rows is_given = unwrap_or (one_of id rows) (codes "false") ≡ bool_text is_given
+
 -- the arguments of a subcommand ask for what a task says
 abbrev pub Say : List Row → Task → Type 0
 Say rows (Run query) = IsQueried rows query
@@ -256,6 +274,8 @@ Say rows (Total (output.Report query)) = IsQueried rows query
 Say rows (Total output.Messages) = ⊤
 Say rows (Total output.Receipts) = ⊤
 Say rows Count = (columns : Text) × (first_of (codes "by") rows ≡ Some columns)
+Say rows (Add of_periods) =
+    HasFlag (codes "periods") rows of_periods × ((report : Text) × (first_of (codes "FILE") rows ≡ Some report))
 Say rows Capture = ⊤
 Say rows Window = (length : Text) × (first_of (codes "window") rows ≡ Some length)
 
@@ -317,11 +337,7 @@ counting_in rows Count = record {
 }
 counting_in rows _ = no_counting
 
--- whether a flag is given
-abbrev pub HasFlag : Text → List Row → Bool → Type 0
-HasFlag id rows is_given = unwrap_or (one_of id rows) (codes "false") ≡ bool_text is_given
-
--- What the arguments of a subcommand say of captures: the paths are those of FILE, which `capture` has, or of `--capture`, which the
+-- What the arguments of a subcommand say of captures: the paths are those of FILE, which `capture` and `add` have, or of `--capture`, which the
 -- others have; each of the rest is what its option says.
 pub record HasCaptures (rows : List Row) (texts : CaptureTexts) : Type 0 where
   pub paths : values_of (codes "FILE") rows ++ values_of (codes "capture") rows ≡ texts.paths

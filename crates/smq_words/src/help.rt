@@ -7,7 +7,7 @@ pub const ABOUT: &str =
     "Tells what became of SMPP 3.4 messages, from captured sessions in a script on standard input";
 
 pub const USAGE: &str =
-    "smq capture [OPTIONS] --link <[HOST:]PORT=LINK> [FILE]... > SCRIPT\n       smq report [OPTIONS] < SCRIPT\n       smq query [OPTIONS] <NAME> < SCRIPT\n       smq check [OPTIONS] < SCRIPT\n       smq follow [OPTIONS] < ROWS\n       smq total [OPTIONS] [NAME] < SCRIPT\n       smq count [OPTIONS] --by <COLUMNS> < SCRIPT\n       smq messages [OPTIONS] < SCRIPT\n       smq receipts [OPTIONS] < SCRIPT\n       smq window <LENGTH> < ROWS";
+    "smq capture [OPTIONS] --link <[HOST:]PORT=LINK> [FILE]... > SCRIPT\n       smq report [OPTIONS] < SCRIPT\n       smq query [OPTIONS] <NAME> < SCRIPT\n       smq check [OPTIONS] < SCRIPT\n       smq follow [OPTIONS] < ROWS\n       smq total [OPTIONS] [NAME] < SCRIPT\n       smq count [OPTIONS] --by <COLUMNS> < SCRIPT\n       smq messages [OPTIONS] < SCRIPT\n       smq receipts [OPTIONS] < SCRIPT\n       smq window <LENGTH> < ROWS\n       smq add [OPTIONS] <REPORT>... > CSV";
 
 /// What is said of usage where words are refused for what they name.
 pub const SHORT_USAGE: &str = "smq <SUBCOMMAND> [OPTIONS]";
@@ -69,6 +69,11 @@ pub const WINDOW: Help<'static> = Help {
     usage: "smq window <LENGTH> < ROWS",
 };
 
+pub const ADD: Help<'static> = Help {
+    about: "Adds reports of scripts that were split by link, or dealt, and writes the report of the whole as CSV",
+    usage: "smq add [OPTIONS] <REPORT>... > CSV",
+};
+
 /// The first part of what stands below each help, before the names of views and lists.
 const SCRIPT: &str = "\
 SCRIPT is CSV records, one a line, as `piece,LINK,SESSION,DIR,MOMENT,HEX`, where DIR is client or centre and
@@ -117,6 +122,30 @@ Status:
   1  something is missing, which standard error tells, or there is no session
   2  bad words, or a file that is no capture
   3  a read or a write failed
+  4  out of memory";
+
+/// What stands below the help of `add`.
+pub const ADD_MORE: &str = "\
+Each REPORT is what smq wrote as CSV, whole (`report`) or of one view or list (`query NAME`), all of the same,
+under the same settings and clock. What is written is octet for octet what smq writes of all their rows in one
+script: each count is the sum of the counts, and each list has the places of all. The tool split-script splits a
+script so that this holds.
+
+That is so because messages of different links never meet. It isn't where one link's sessions are apart, since its
+receipts may come in any of them. So a link that has rows in two reports is told, and a session that has places in
+two, and nothing is written. Reports of a view other than `link` don't show it, and no report shows its settings or
+clock: look to these yourself.
+
+With --periods a link and a session may stand in many reports, since the tool deal cuts no pair and no group of
+messages and receipts. The counts are the sums. A place of a dealt script isn't that of the whole, so of each list
+its length is written alone, as a line `count,NAME,COUNT` behind the views. Such a sum is a report that --periods
+adds again, as months to a year.
+
+Status:
+  0  the sum was written
+  1  the reports can't be added, or a sum of counts is 2^64 or more; nothing was written
+  2  bad words, or a file that is no report as CSV, or can't be read
+  3  a write failed
   4  out of memory";
 
 /// How many columns a line of names may have.

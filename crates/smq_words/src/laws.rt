@@ -1,5 +1,5 @@
 //! Known values of the definitions: each is the contract of a function with no body.
-ghost use Rattle.smq_words.specs.Known.{KnowsCapture, KnowsCaptures, KnowsCheck, KnowsCount, KnowsFollow, KnowsLines, KnowsTotal, KnowsWindow, KnowsWords};
+ghost use Rattle.smq_words.specs.Known.{KnowsAdd, KnowsCapture, KnowsCaptures, KnowsCheck, KnowsCount, KnowsFollow, KnowsLines, KnowsTotal, KnowsWindow, KnowsWords};
 
 /// The words of orders.
 pub fn known_words()
@@ -44,4 +44,9 @@ pub fn known_words_of_captures()
 /// Which words `window` takes, and which subcommands take `--window`.
 pub fn known_words_of_window()
     ensures { KnowsWindow }
+{}
+
+/// Which words `add` takes.
+pub fn known_words_of_add()
+    ensures { KnowsAdd }
 {}

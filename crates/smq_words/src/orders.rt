@@ -18,6 +18,8 @@ pub enum Task {
     Total(Output),
     /// To play rows, however many there are, and to count the messages that they leave by columns.
     Count,
+    /// To add reports as CSV; of periods, a link and a session may stand in many.
+    Add { of_periods: bool },
     /// To write the script of packet captures.
     Capture,
     /// To write the rows of the last so many minutes, and to withdraw what is older.
@@ -63,10 +65,10 @@ impl Counting {
     }
 }
 
-/// The words of captures, as they stand: values as texts.
+/// The words of captures and of reports that are added, as they stand: values as texts.
 #[derive(Debug, Drop)]
 pub struct Captures {
-    /// Paths: each FILE of `capture`, each --capture of the other subcommands.
+    /// Paths: each FILE of `capture`, each REPORT of `add`, each --capture of the other subcommands.
     pub paths: Vec<String>,
     /// Each --link.
     pub links: Vec<String>,

@@ -5,15 +5,16 @@ ghost use Rattle.clap.specs.Words.{app_of, new_app, rule_of};
 ghost use Rattle.clap.specs.declared.builder.command.Command.TheViews.{out-Command as fields_of};
 ghost use Rattle.clap.specs.declared.builder.value_parser.ValueParser.TheVariants.{Names};
 ghost use Rattle.smq_report.specs.Picks.{pick_names};
-ghost use Rattle.smq_words.specs.Words.{IsArgument, IsProgram, bare_program, capture_app, count_app, first_program, follow_app, format_names};
+ghost use Rattle.smq_words.specs.Words.{IsArgument, IsProgram, add_app, bare_program, capture_app, count_app, first_program, follow_app, format_names};
 ghost use Rattle.smq_words.specs.Words.{format_rule, name_rule, named_app, option_rule, optional_rule, options_app, settings_app, settings_rule};
 ghost use Rattle.smq_words.specs.Words.{texts_of, version_text, window_app, with_any_length};
 
+use crate::add_rules::{periods_flag, reports_argument};
 use crate::capture_rules::{file_argument, required_link, with_captures, with_live, with_reading};
 use crate::count_rules::{columns_option, condition_option};
 use crate::help::{
-    ABOUT, CAPTURE, CAPTURE_MORE, CHECK, COUNT, FOLLOW, Help, MESSAGES, QUERY, RECEIPTS, REPORT,
-    TOTAL, USAGE, WINDOW,
+    ABOUT, ADD, ADD_MORE, CAPTURE, CAPTURE_MORE, CHECK, COUNT, FOLLOW, Help, MESSAGES, QUERY,
+    RECEIPTS, REPORT, TOTAL, USAGE, WINDOW,
 };
 use crate::names::FORMATS;
 use crate::window_rules::{length_argument, window_option};
@@ -80,7 +81,7 @@ fn first_subcommands<'a>(
         .subcommand(follow)
 }
 
-/// The program, and its subcommands that take any number of rows.
+/// The program, and its subcommands that take any number of rows, or reports.
 fn with_any_length<'a>(
     alloc: Global,
     command: Command<'a>,
@@ -103,12 +104,14 @@ fn with_any_length<'a>(
     let messages = settings_command(alloc, "messages", MESSAGES, more)?;
     let receipts = settings_command(alloc, "receipts", RECEIPTS, more)?;
     let window = window_command(alloc, more)?;
+    let add = add_command(alloc)?;
     command
         .subcommand(total)?
         .subcommand(count)?
         .subcommand(messages)?
         .subcommand(receipts)?
-        .subcommand(window)
+        .subcommand(window)?
+        .subcommand(add)
 }
 
 /// The program without its subcommands.
@@ -223,6 +226,16 @@ fn window_command<'a>(alloc: Global, more: &'a str) -> Result<Command<'a>, Alloc
     ensures local { IfOk result (λ command. (fields_of command).has_globals ≡ false) }
 {
     subcommand(alloc, "window", WINDOW, more).arg(length_argument(alloc))
+}
+
+/// The subcommand that adds reports, and its help.
+fn add_command<'a>(alloc: Global) -> Result<Command<'a>, AllocError>
+    ensures rules { IfOk result (λ command. app_of command ≡ add_app) }
+    ensures local { IfOk result (λ command. (fields_of command).has_globals ≡ false) }
+{
+    subcommand(alloc, "add", ADD, ADD_MORE)
+        .arg(periods_flag(alloc))?
+        .arg(reports_argument(alloc))
 }
 
 /// A subcommand with no argument yet, and its help.

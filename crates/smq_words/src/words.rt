@@ -78,12 +78,13 @@ fn task_of(name: &str, entered: &ArgMatches) -> Task
         → Asks (Some (name.now, rows_of (found_of entered.now))) task path window counting captures
         → result ≡ task }
 {
-    task_named(name, query_in(entered))
+    let of_periods = is_given(entered, "periods");
+    task_named(name, query_in(entered), of_periods)
 }
 
-/// The task of the subcommand of a name, whose arguments ask for this.
-fn task_named(name: &str, query: Query) -> Task
-    ensures { result ≡ task_named name.now query }
+/// The task of the subcommand of a name, whose arguments ask for this, and of periods or not.
+fn task_named(name: &str, query: Query, of_periods: bool) -> Task
+    ensures { result ≡ task_named name.now query of_periods }
 {
     if name == "check" {
         return Task::Check;
@@ -102,6 +103,9 @@ fn task_named(name: &str, query: Query) -> Task
     }
     if name == "total" {
         return Task::Total(Output::Report(query));
+    }
+    if name == "add" {
+        return Task::Add { of_periods };
     }
     if name == "capture" {
         return Task::Capture;
@@ -162,7 +166,7 @@ fn captures_of(alloc: Global, entered: &ArgMatches) -> Result<Captures, AllocErr
     })
 }
 
-/// The paths of captures: those of FILE and of `--capture`, of which a subcommand has one.
+/// The paths of captures or reports: those of FILE or REPORT, and of `--capture`, of which a subcommand has one.
 fn paths_in(alloc: Global, entered: &ArgMatches) -> Result<Vec<String>, AllocError>
     ensures { IfOk result (λ paths. map string_bytes paths.items
         ≡ values_of (codes "FILE") (rows_of (found_of entered.now))

@@ -1,0 +1,4 @@
+pub mod KeyLemmas
+pub mod NumberLemmas
+pub mod RowLemmas
+pub mod SumLemmas

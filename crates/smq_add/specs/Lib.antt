@@ -1,0 +1,5 @@
+pub mod Numbers
+pub mod Rows
+pub mod Sums
+pub mod Checks
+pub mod Known

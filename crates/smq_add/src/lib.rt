@@ -1,0 +1,20 @@
+//! Adds reports as CSV.
+#![tactic(auto)]
+
+mod apart;
+mod checks;
+mod field;
+mod laws;
+mod line;
+mod reading;
+mod row;
+mod sum;
+mod text;
+
+pub use apart::{Apart, Checks, Shared};
+pub use checks::{Owner, is_whole};
+pub use laws::{known_lines, known_numbers, known_sums, known_wholes, reports_add_in_any_order};
+pub use line::row_of;
+pub use reading::{ReadFault, read_report};
+pub use row::{Key, Row};
+pub use sum::{AddFault, Sum};
