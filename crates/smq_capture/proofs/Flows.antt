@@ -448,11 +448,11 @@ flows-gap s written rows side d then missing f none skips first stops moment = r
 }
 
 -- what a segment that isn't too far ahead makes
-pub comes-within : (before s : History) (written : List Row) (side : Side) (given : Came) (d : Direction) (rows : List Row)
-    → (given ≡ came.Outside → ⊥) → Comes s s written side given d rows → Comes before s written side given d rows
-comes-within before s written side (came.AtOnce given) d rows within h = h
-comes-within before s written side came.Taken d rows within h = h
-comes-within before s written side came.Outside d rows within h = absurd (within refl)
+pub comes-within : (far : Type 0) (before s : History) (written : List Row) (side : Side) (given : Came) (d : Direction) (rows : List Row)
+    → (far → ⊥) → Comes ⊥ s s written side given d rows → Comes far before s written side given d rows
+comes-within far before s written side (came.AtOnce given) d rows near h = (near, h.1, h.2, h.3, h.4, h.5)
+comes-within far before s written side came.Taken d rows near h = (near, h.1, h.2, h.3)
+comes-within far before s written side came.Outside d rows near h = absurd h.0
 
 -- octets of a segment were lent
 pub tells-lent : (s : History) (d then : stream.Direction) (piece : Piece) (more : List Octet) → Tells s d
@@ -468,39 +468,36 @@ tells-lent s d then piece more t gives some searches stops = record {
 }
 
 -- what a stream says of a segment that it takes
-abbrev SaysOfAdded : ℕ → Packet → List ℕ → Bool → stream.Direction → stream.Direction → Type 0
+abbrev pub SaysOfAdded : ℕ → Packet → List ℕ → Bool → stream.Direction → stream.Direction → Type 0
 SaysOfAdded sequence packet octets taken before after =
     (pieces : List Piece) (start : Start) (given : List Octet) (f : ℕ) (place : Place) → stream.Gives pieces start given before
     → before.first ≡ Some f → before.is_stopped ≡ false → 0 < length octets → IsPlace f before.order.next sequence place
     → stream.Adds pieces start given (piece_of place before.order.next packet octets) before after taken
 
-tells-added : (s : History) (sequence : ℕ) (packet : Packet) (octets : List ℕ) (taken : Bool) (f : ℕ) (place : Place) (d after : stream.Direction)
-    → Tells s d → d.first ≡ Some f → IsPlace f d.order.next sequence place → 0 < length octets → taken ≡ true
-    → SaysOfAdded sequence packet octets taken d after
-    → after ≡ record d { order = after.order; extent = after.extent; held = after.held }
-    → Tells (with_piece (piece_of place d.order.next packet octets) s) after
-tells-added s sequence packet octets taken f place d after t first stands some is adds same =
-    let piece = piece_of place d.order.next packet octets in
-    let h = adds s.pieces s.part.start (octets_in s.part) f place t.gives first t.goes some stands in
-    tells-piece s d after piece t
-    (subst (λ (b : Bool). stream.Adds s.pieces s.part.start (octets_in s.part) piece d after b) is h).1
-    (λ none. let e = ap (λ (x : stream.Direction). x.first) same ∙ first in absurd (cc))
-    (ap (λ (x : stream.Direction). x.is_searching) same) (ap (λ (x : stream.Direction). x.is_stopped) same)
+-- so it is of one that is taken by a stream with a history, where what was asked before changed nothing
+pub adds-at : (s : History) (sequence : ℕ) (packet : Packet) (octets : List ℕ) (taken : Bool) (f : ℕ) (place : Place)
+    (d between after : stream.Direction) → Tells s d → d.first ≡ Some f → IsPlace f d.order.next sequence place → 0 < length octets
+    → between ≡ d → SaysOfAdded sequence packet octets taken between after
+    → stream.Adds s.pieces s.part.start (octets_in s.part) (piece_of place d.order.next packet octets) d after taken
+adds-at s sequence packet octets taken f place d between after t first stands some e adds =
+    subst (λ (x : stream.Direction). SaysOfAdded sequence packet octets taken x after) e adds s.pieces s.part.start (octets_in s.part) f place
+    t.gives first t.goes some stands
 
--- a segment's octets are taken, where what was asked before changed nothing
-pub flows-added : (s : History) (written rows : List Row) (side : Side) (sequence : ℕ) (packet : Packet) (octets : List ℕ) (taken : Bool) (f : ℕ)
-    (place : Place) (d : Direction) (between after : stream.Direction)
-    → Flows s written side d rows → d.stream.first ≡ Some f → IsPlace f d.stream.order.next sequence place → 0 < length octets → taken ≡ true
-    → between ≡ d.stream → SaysOfAdded sequence packet octets taken between after
+-- a segment's octets are taken
+pub flows-added : (s : History) (written rows : List Row) (side : Side) (piece : Piece) (f : ℕ) (d : Direction)
+    (between after : stream.Direction) → Flows s written side d rows → d.stream.first ≡ Some f → between ≡ d.stream
+    → stream.Adds s.pieces s.part.start (octets_in s.part) piece d.stream after true
     → after ≡ record between { order = after.order; extent = after.extent; held = after.held }
-    → Flows (with_piece (piece_of place d.stream.order.next packet octets) s) written side (record d { stream = after }) rows
-flows-added s written rows side sequence packet octets taken f place d between after flow first stands some is e adds same = record {
-  tells = tells-added s sequence packet octets taken f place d.stream after flow.tells first stands some is
-      (subst (λ (x : stream.Direction). SaysOfAdded sequence packet octets taken x after) e adds)
-      (subst (λ (x : stream.Direction). after ≡ record x { order = after.order; extent = after.extent; held = after.held }) e same);
-  rows_are = flow.rows_are;
-  moment = flow.moment;
-}
+    → Flows (with_piece piece s) written side (record d { stream = after }) rows
+flows-added s written rows side piece f d between after flow first e adds differs =
+    let same = subst (λ (x : stream.Direction). after ≡ record x { order = after.order; extent = after.extent; held = after.held }) e differs in
+    record {
+      tells = tells-piece s d.stream after piece flow.tells adds.1
+          (λ none. let known = ap (λ (x : stream.Direction). x.first) same ∙ first in absurd (cc))
+          (ap (λ (x : stream.Direction). x.is_searching) same) (ap (λ (x : stream.Direction). x.is_stopped) same);
+      rows_are = flow.rows_are;
+      moment = flow.moment;
+    }
 
 -- a packet's moment is noted
 pub flows-noted : (s : History) (written rows : List Row) (side : Side) (d then : Direction) → then ≡ record d { raised = then.raised }

@@ -27,4 +27,11 @@ known_flow = record {
   no_gap = λ h. no-gap h.2.gap;
   no_place = λ h. let e = h.0 in absurd (omega (arith, e));
   no_start = λ h. absurd (omega (arith, h));
+  client_is = λ flow. refl;
+  centre_is = λ flow. refl;
+  client_with = λ d flow. refl;
+  centre_with = λ d flow. refl;
+  waits = λ given d row h. let e = h.1 in absurd (cc);
+  follows = λ given d f is h. let e = h.2 in absurd (cc);
+  far = λ s side d h. h.0;
 }

@@ -1,8 +1,9 @@
 -- What becomes of the octets of a direction: the parts of its stream, and the rows that they are.
-use Rattle.std.specs.Prelude.{◌≡◌, ◌≢◌, ℕ, ◌+◌, ◌<◌, max, true, false, List, [], ◌∷◌, ◌++◌, length, map, replicate, slice_get, None}
+use Rattle.std.specs.Prelude.{◌≡◌, ◌≢◌, ℕ, ◌+◌, ◌*◌, ◌<◌, max, true, false, List, [], ◌∷◌, ◌++◌, length, map, replicate, slice_get, None}
 use Rattle.std.specs.List.{AllByRecursion}
 use Rattle.smq_reassembly.specs.Moment.{IsGiven, Start}
 use Rattle.smq_reassembly.specs.Octet.{Octet}
+use Rattle.smq_reassembly.specs.Piece as piece
 use Rattle.smq_reassembly.specs.Piece.{Piece}
 use Rattle.smq_reassembly.specs.Stream.{IsGap}
 use Rattle.smq_streams.specs.Calls.{IsBeginning, Part, end_of, octets_in}
@@ -131,14 +132,21 @@ pub record IsAtOnce (side : Side) (given : AtOnce) (row : Row) : Type 0 where
   pub octets : row.octets ≡ given.octets.now
   pub sessions : row.sessions ≡ replicate (length given.octets.now) given.session
 
--- what a segment makes of a direction that has a history, and another with the segment's piece: its octets came, and all that follow are rows
--- then, or one is written at once; or they end too far ahead
-abbrev pub Comes : History → History → List Row → Side → Came → Direction → List Row → Type 0
-Comes before s written side (came.AtOnce given) d rows =
-    (more : List Octet) × (row : Row) × IsAtOnce side given row × (given.session ≡ d.session)
+-- what a segment makes of a direction that has a history, and another with the segment's piece: it ends too far ahead; or its octets came,
+-- and all that follow are rows then, or one is written at once
+abbrev pub Comes : Type 0 → History → History → List Row → Side → Came → Direction → List Row → Type 0
+Comes far before s written side (came.AtOnce given) d rows =
+    (far → ⊥) × (more : List Octet) × (row : Row) × IsAtOnce side given row × (given.session ≡ d.session)
     × Flows (with_put more s) (written ++ row ∷ []) side d rows
-Comes before s written side came.Taken d rows = (more : List Octet) × Flows (with_put more s) written side d rows × IsThrough d.stream
-Comes before s written side came.Outside d rows = Flows before written side d rows
+Comes far before s written side came.Taken d rows =
+    (far → ⊥) × (more : List Octet) × Flows (with_put more s) written side d rows × IsThrough d.stream
+Comes far before s written side came.Outside d rows = far × Flows before written side d rows
+
+-- octets are written at once only where they are free to: no row waits before them, and no other session begins in their direction
+abbrev pub IsFree : Type 0 → Came → Direction → List Row → Type 0
+IsFree free (came.AtOnce given) d rows = free × (rows ≡ []) × (d.following ≡ None)
+IsFree free came.Taken d rows = Unit {0}
+IsFree free came.Outside d rows = Unit {0}
 
 -- of a direction changes only its stream and the moment of its last row, and which packets were early
 abbrev pub OnlyPuts : Direction → Direction → Type 0
@@ -156,6 +164,21 @@ OnlyFrames came.Outside before after = OnlyPuts before after
 abbrev pub direction_of : Side → Flow → Direction
 direction_of Client flow = flow.client
 direction_of Centre flow = flow.centre
+
+abbrev pub stream_of : Side → Flow → stream.Direction
+stream_of side flow = (direction_of side flow).stream
+
+-- what a stream takes in memory: the pieces that wait and their octets, those that are held or were looked at, and what is noted
+abbrev pub weight_of : stream.Direction → ℕ
+weight_of d = 128 * length d.order.waiting + piece.octets_in d.order.waiting + (d.held.looked + length d.held.octets) + 16 * length d.notes
+
+-- a flow in which that of one end is another; or only its stream is
+abbrev pub with_direction : Side → Direction → Flow → Flow
+with_direction Client d flow = record flow { client = d }
+with_direction Centre d flow = record flow { centre = d }
+
+abbrev pub with_stream : Side → stream.Direction → Flow → Flow
+with_stream side s flow = with_direction side (record (direction_of side flow) { stream = s }) flow
 
 abbrev pub FlowsIn : History → List Row → Side → Flow → Type 0
 FlowsIn s written side flow = Flows s written side (direction_of side flow) flow.rows

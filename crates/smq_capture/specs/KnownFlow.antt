@@ -1,10 +1,17 @@
 -- What the definitions give for some known octets and rows of a direction.
-use Rattle.std.specs.Prelude.{◌≡◌, ℕ, false, List, [], ◌∷◌}
+use Rattle.std.specs.Prelude.{◌≡◌, ℕ, false, List, [], ◌∷◌, Some}
 use Rattle.smq_reassembly.specs.Octet.{Octet}
 use Rattle.smq_streams.specs.KnownCalls.{after_gap, before_gap, came}
+use Rattle.smq_capture.specs.declared.direction.Direction.{Direction}
+use Rattle.smq_capture.specs.declared.direction.Following.{Following}
+use Rattle.smq_capture.specs.declared.flow.AtOnce.{AtOnce}
+use Rattle.smq_capture.specs.declared.flow.Came.TheVariants as came
+use Rattle.smq_capture.specs.declared.flow.Flow.{Flow}
+use Rattle.smq_capture.specs.declared.side.Side.{Side}
 use Rattle.smq_capture.specs.declared.side.Side.TheVariants.{Client, Centre}
-use Rattle.smq_capture.specs.Flow.{AreParts, Ended, History, all_put, last_raised, nothing, raised, timed_of, with_gap, with_passed, with_put}
+use Rattle.smq_capture.specs.Flow.{AreParts, Comes, Ended, History, IsFree, all_put, direction_of, last_raised, nothing, raised, timed_of, with_direction, with_gap, with_passed, with_put}
 use Rattle.smq_capture.specs.KnownRows.{five, two}
+use Rattle.smq_capture.specs.Rows.{Row}
 
 -- an octet that a packet brought at a moment
 abbrev pub octet : ℕ → ℕ → Octet
@@ -38,3 +45,12 @@ pub record KnowsFlow : Type 0 where
   pub no_gap : AreParts came 4 (ended 4) → ⊥
   pub no_place : AreParts came 6 (ended 5) → ⊥
   pub no_start : AreParts came 1 [] → ⊥
+  -- of both ends' directions each is its own, and only that of the end that is named becomes another
+  pub client_is : (flow : Flow) → direction_of Client flow ≡ flow.client
+  pub centre_is : (flow : Flow) → direction_of Centre flow ≡ flow.centre
+  pub client_with : (d : Direction) (flow : Flow) → with_direction Client d flow ≡ record flow { client = d }
+  pub centre_with : (d : Direction) (flow : Flow) → with_direction Centre d flow ≡ record flow { centre = d }
+  -- nothing is written at once behind a row that waits, nor where another session follows; and what was taken wasn't too far ahead
+  pub waits : (given : AtOnce) (d : Direction) (row : Row) → IsFree (Unit {0}) (came.AtOnce given) d (row ∷ []) → ⊥
+  pub follows : (given : AtOnce) (d : Direction) (f : Following) → d.following ≡ Some f → IsFree (Unit {0}) (came.AtOnce given) d [] → ⊥
+  pub far : (s : History) (side : Side) (d : Direction) → Comes ⊥ s s [] side came.Outside d [] → ⊥

@@ -1,5 +1,5 @@
 //! One direction of a connection, and its sessions.
-ghost use Rattle.std.specs.Prelude.{◌≡◌, ◌≤◌, ℕ, List, length, IfSome, max, None};
+ghost use Rattle.std.specs.Prelude.{◌≡◌, ◌==◌, ◌+◌, ◌^◌, ◌<◌, ◌≤◌, ℕ, List, [], length, IfSome, if◌then◌else◌, max, min, true, false, None};
 ghost use Rattle.smq_streams.specs.Framing.{IsFramed};
 ghost use Rattle.smq_capture.specs.Flow.{Tells, nothing};
 ghost use Rattle.smq_capture.specs.Sessions.{BeginsAt, Deals, Goes};
@@ -76,6 +76,11 @@ impl Direction {
     /// Takes note of a packet whose moment is before the last row's, if it is.
     pub(crate) fn note_early(&mut self, number: u64, is_early: bool)
         ensures same { self.new ≡ record self.old { raised = self.new.raised } }
+        ensures early { is_early ≡ true → self.new.raised.first
+            ≡ (if self.old.raised.count == 0 then number else min self.old.raised.first number) }
+        ensures count { is_early ≡ true → self.old.raised.count + 1 < 2 ^ 64
+            → self.new.raised.count ≡ self.old.raised.count + 1 }
+        ensures none { is_early ≡ false → self.new ≡ self.old }
     {
         if is_early {
             self.raised.add(number);
@@ -123,6 +128,7 @@ impl Direction {
           session = session;
           following = None;
         } }
+        ensures framed { IsFramed [] self.new.framer }
     {
         self.session = session;
         self.following = None;

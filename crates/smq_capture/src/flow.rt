@@ -1,21 +1,27 @@
 //! The octets of both directions of a connection, from segments to rows.
-ghost use Rattle.std.specs.Prelude.{◌≡◌, ◌↔◌, ℕ, ◌<◌, ◌++◌, ◌∷◌, ◌⊎◌, [], List, length, IsTrue, IfOk, IfSome, OnOk, Ok, Some, None, true, false};
+ghost use Rattle.std.specs.Prelude.{◌≡◌, ◌≢◌, ◌↔◌, ℕ, ◌<◌, ◌++◌, ◌∷◌, ◌||◌, ◌+◌, ◌-◌, ◌^◌, min, [], List, length, slice_get, IsTrue, IfOk, IfSome, MatchOption, OnOk, Ok, Some, None, true, false};
+ghost use Rattle.std.specs.List.{AllZip};
+ghost use Rattle.std.specs.Option.{is_some};
+ghost use Rattle.smq_reassembly.specs.Moment.{Start};
 ghost use Rattle.smq_reassembly.specs.Octet.{Octet, octets_of};
-ghost use Rattle.smq_reassembly.specs.Segment.{piece_of};
+ghost use Rattle.smq_reassembly.specs.Piece.{Piece};
+ghost use Rattle.smq_reassembly.specs.Segment.{IsTooFarAhead, piece_of};
 ghost use Rattle.smq_reassembly.specs.Sequence.{IsPlace};
 ghost use Rattle.smq_reassembly.specs.declared.sequence.Place.{Place};
-ghost use Rattle.smq_streams.specs.Direction.{left_in};
-ghost use Rattle.smq_capture.specs.Flow.{Comes, Flows, FlowsIn, History, IsThrough, OnlyFrames, OnlyPuts, OtherStays, Puts, Stays, Tells, all_put, direction_of, last_raised, nothing, raised, timed_of, with_gap, with_passed, with_piece, with_put};
-ghost use Rattle.smq_capture.specs.Rows.{AllSettle, IsSettled, Row};
+ghost use Rattle.smq_streams.specs.Direction.{Gives, Searches, is_open, left_in};
+ghost use Rattle.smq_capture.specs.Flow.{Comes, Flows, FlowsIn, History, IsFree, IsThrough, OnlyFrames, OnlyPuts, OtherStays, Puts, Stays, Tells, all_put, direction_of, last_raised, nothing, raised, stream_of, timed_of, weight_of, with_direction, with_gap, with_passed, with_piece, with_put, with_stream};
+ghost use Rattle.smq_capture.specs.Rows.{AllDealt, AllSettle, AreInOrder, AreSettledTo, IsSettled, Row, SettlesBefore, SomeEndsIn, weight_in};
 ghost use Rattle.smq_capture.specs.Sessions.{Goes};
 
-use crate::direction::{Direction, Following};
+use crate::direction::Direction;
 use crate::rows::Rows;
 use crate::side::Side;
 use crate::waiting::Waiting;
 use smq_reassembly::{Next, Packet};
-use smq_streams::{Found, Missing, Why};
+use smq_streams::{Found, Missing};
 use std::alloc::{AllocError, Global};
+
+mod notes;
 
 /// Octets that are to be written at once: those of a session, at a moment.
 #[derive(Clone, Copy)]
@@ -67,7 +73,9 @@ impl Flow {
     }
 
     /// Whether something waits that may begin another session.
-    pub(crate) fn is_open(&self) -> bool {
+    pub(crate) fn is_open(&self) -> bool
+        ensures { result ≡ (is_open self.now.client.stream || is_open self.now.centre.stream) }
+    {
         self.client.stream.is_open() || self.centre.stream.is_open()
     }
 
@@ -79,97 +87,15 @@ impl Flow {
     }
 
     /// How much memory what waits takes, at most.
-    pub(crate) fn weight(&self) -> u64 {
+    pub(crate) fn weight(&self) -> u64
+        ensures { result ≡ min (weight_of self.now.client.stream + weight_of self.now.centre.stream + weight_in self.now.rows)
+            (2 ^ 64 - 1) }
+    {
         self.client
             .stream
             .weight()
             .saturating_add(self.centre.stream.weight())
             .saturating_add(self.rows.weight())
-    }
-
-    /// Learns the sequence number of a direction's first octet, where none is known; whether its first PDU has to be looked for.
-    pub(crate) fn begin(&mut self, side: Side, first: u32, is_searching: bool)
-        ensures { Stays self.old self.new }
-    {
-        match side {
-            Side::Client => self.client.stream.begin(first, is_searching),
-            Side::Centre => self.centre.stream.begin(first, is_searching),
-        }
-    }
-
-    /// Takes note that octets up to a sequence number were sent.
-    pub(crate) fn note_sent(&mut self, side: Side, sequence: u32, is_exact: bool)
-        ensures { Stays self.old self.new }
-    {
-        match side {
-            Side::Client => self.client.stream.note_sent(sequence, is_exact),
-            Side::Centre => self.centre.stream.note_sent(sequence, is_exact),
-        }
-    }
-
-    /// Takes note that the other end has all octets before a sequence number.
-    pub(crate) fn note_acknowledged(
-        &mut self,
-        side: Side,
-        sequence: u32,
-        moment: u64,
-    ) -> Result<(), AllocError>
-        ensures { Stays self.old self.new }
-    {
-        match side {
-            Side::Client => self.client.stream.note_acknowledged(sequence, moment),
-            Side::Centre => self.centre.stream.note_acknowledged(sequence, moment),
-        }
-    }
-
-    /// When what waits in a direction is given up, if anything does.
-    pub(crate) fn deadline(&mut self, side: Side) -> Option<u64>
-        ensures { Stays self.old self.new }
-    {
-        match side {
-            Side::Client => self.client.stream.deadline(),
-            Side::Centre => self.centre.stream.deadline(),
-        }
-    }
-
-    /// Why what waits in a direction won't come any more by a moment, if it won't.
-    pub(crate) fn is_lost(&mut self, side: Side, moment: u64) -> Option<Why>
-        ensures { Stays self.old self.new }
-    {
-        match side {
-            Side::Client => self.client.stream.is_lost(moment),
-            Side::Centre => self.centre.stream.is_lost(moment),
-        }
-    }
-
-    /// Notes since when something waits in a direction.
-    pub(crate) fn watch(&mut self, side: Side, moment: u64)
-        ensures { Stays self.old self.new }
-    {
-        match side {
-            Side::Client => self.client.stream.watch(moment),
-            Side::Centre => self.centre.stream.watch(moment),
-        }
-    }
-
-    /// Notes that what waits in a direction does so from now on.
-    pub(crate) fn watch_anew(&mut self, side: Side, moment: u64)
-        ensures { Stays self.old self.new }
-    {
-        match side {
-            Side::Client => self.client.stream.watch_anew(moment),
-            Side::Centre => self.centre.stream.watch_anew(moment),
-        }
-    }
-
-    /// How many octets of a direction were passed over since it was last asked.
-    pub(crate) fn take_passed(&mut self, side: Side) -> u64
-        ensures { Stays self.old self.new }
-    {
-        match side {
-            Side::Client => self.client.stream.take_passed(),
-            Side::Centre => self.centre.stream.take_passed(),
-        }
     }
 
     /// Takes the octets of a segment. Those that are the next are to be written at once where no row waits or may have to.
@@ -184,9 +110,14 @@ impl Flow {
         ensures comes { (s : History) (written : List Row) (f : ℕ) (place : Place) → FlowsIn s written side self.old
             → (direction_of side self.old).stream.first ≡ Some f
             → IsPlace f (direction_of side self.old).stream.order.next sequence place → 0 < length octets.now
-            → IfOk result (λ came. Comes s
+            → IfOk result (λ came. Comes
+            (IsTooFarAhead (direction_of side self.old).stream.order.next
+            (piece_of place (direction_of side self.old).stream.order.next packet octets.now)) s
             (with_piece (piece_of place (direction_of side self.old).stream.order.next packet octets.now) s) written side
             came (direction_of side self.new) self.new.rows) }
+        ensures free { IfOk result (λ came. IsFree
+            ((one : Side) → one ≢ side → is_open (stream_of one self.old) ≡ false) came (direction_of side self.old)
+            self.old.rows) }
         ensures same { IfOk result (λ came. OnlyFrames came (direction_of side self.old) (direction_of side self.new)) }
         ensures other { OnOk result (OtherStays side self.old self.new) }
     {
@@ -220,7 +151,21 @@ impl Flow {
     pub(crate) fn search(&mut self, side: Side, is_end: bool) -> Result<Option<Found>, AllocError>
         ensures passes { (s : History) (written : List Row) → FlowsIn s written side self.old
             → OnOk result ((passed : List Octet) × FlowsIn (with_passed passed s) written side self.new) }
-        ensures other { OtherStays side self.old self.new }
+        ensures searches { (stream_of side self.old).is_searching ≡ true
+            → (pieces : List Piece) (start : Start) (given : List Octet) → Gives pieces start given (stream_of side self.old)
+            → IfOk result (λ found.
+            Searches is_end pieces start given (stream_of side self.old) (stream_of side self.new) (is_some found)) }
+        ensures found { IfOk result (λ r. MatchOption r
+            ((stream_of side self.new).is_searching ≡ (stream_of side self.old).is_searching)
+            (λ found. ((stream_of side self.new).is_searching ≡ false) × (found.place ≡ (stream_of side self.new).held.place)
+            × MatchOption (slice_get (stream_of side self.new).held.octets 0) (found.number ≡ 0)
+            (λ (o : Octet). found.number ≡ o.packet.number))) }
+        ensures idle { (stream_of side self.old).is_searching ≡ false → (result ≡ Ok None) × (self.new ≡ self.old) }
+        ensures rest { self.new ≡ with_stream side (record (stream_of side self.old) {
+          order = (stream_of side self.new).order;
+          held = (stream_of side self.new).held;
+          is_searching = (stream_of side self.new).is_searching;
+        }) self.old }
     {
         if !self.of(side).stream.is_searching() {
             return Ok(None);
@@ -236,24 +181,22 @@ impl Flow {
     pub(crate) fn skip_gap(&mut self, side: Side) -> Option<Missing>
         ensures ends { (s : History) (written : List Row) → FlowsIn s written side self.old
             → IfSome result (λ missing. (moment : ℕ) × FlowsIn (with_gap missing.until moment s) written side self.new) }
+        ensures from { IfSome result (λ missing. (missing.from ≡ (stream_of side self.old).order.next)
+            × (missing.until ≡ (stream_of side self.new).order.next)) }
+        ensures searches { IfSome result (λ missing. self.new ≡ with_stream side (record (stream_of side self.old) {
+          order = record (stream_of side self.new).order { waiting = (stream_of side self.old).order.waiting };
+          is_searching = true;
+          is_behind_gap = true;
+        }) self.old) }
+        ensures waits { result ≡ None → (stream_of side self.old).held.octets ≡ []
+            → (stream_of side self.old).order.waiting ≡ [] }
         ensures none { result ≡ None → self.new ≡ self.old }
-        ensures other { OtherStays side self.old self.new }
     {
         let missing = match side {
             Side::Client => self.client.stream.skip_gap()?,
             Side::Centre => self.centre.stream.skip_gap()?,
         };
         Some(missing)
-    }
-
-    /// Takes nothing more of a direction.
-    pub(crate) fn stop(&mut self, side: Side)
-        ensures { OtherStays side self.old self.new }
-    {
-        match side {
-            Side::Client => self.client.stream.stop(),
-            Side::Centre => self.centre.stream.stop(),
-        }
     }
 
     /// Makes rows of what follows in a direction.
@@ -279,31 +222,19 @@ impl Flow {
     ) -> Result<bool, AllocError>
         ensures flows { Stays self.old self.new }
         ensures settles { AllSettle side (direction_of side self.old) self.old.rows self.new.rows }
+        ensures goes { Goes (direction_of side self.old) (direction_of side self.new) }
+        ensures dealt { OnOk result
+            (AllDealt side (direction_of side self.old) (direction_of side self.new) self.old.rows self.new.rows) }
+        ensures all { until ≡ None → OnOk result (AreSettledTo until side self.old.rows self.new.rows) }
+        ensures below { AreInOrder side self.old.rows → OnOk result (AreSettledTo until side self.old.rows self.new.rows) }
+        ensures before { (place : ℕ) → until ≡ Some place → AllZip (SettlesBefore place) self.old.rows self.new.rows }
+        ensures answer { IfOk result (λ is_there. IsTrue is_there ↔ SomeEndsIn session self.old.rows self.new.rows) }
+        ensures rest { self.new
+            ≡ record (with_direction side (direction_of side self.new) self.old) { rows = self.new.rows } }
     {
         match side {
             Side::Client => self.rows.settle(side, until, &mut self.client, session),
             Side::Centre => self.rows.settle(side, until, &mut self.centre, session),
-        }
-    }
-
-    /// Begins a session of a direction with the first PDU that begins at a place or behind it.
-    pub(crate) fn follow(&mut self, side: Side, session: u64, place: u64)
-        ensures { Stays self.old self.new }
-    {
-        let following = Some(Following { session, place });
-        match side {
-            Side::Client => self.client.following = following,
-            Side::Centre => self.centre.following = following,
-        }
-    }
-
-    /// Begins a session of a direction with its next octets.
-    pub(crate) fn begin_session(&mut self, side: Side, session: u64)
-        ensures { Stays self.old self.new }
-    {
-        match side {
-            Side::Client => self.client.begin_session(session),
-            Side::Centre => self.centre.begin_session(session),
         }
     }
 
@@ -312,6 +243,7 @@ impl Flow {
         ensures some { IfSome result (λ row. IsSettled row × (self.old.rows ≡ row ∷ self.new.rows)) }
         ensures same { self.new ≡ record self.old { rows = self.new.rows } }
         ensures none { result ≡ None → self.new ≡ self.old }
+        ensures waits { result ≡ None → IfSome (slice_get self.old.rows 0) (λ row. IsSettled row → ⊥) }
     {
         self.rows.take()
     }
@@ -330,9 +262,11 @@ fn take_in<'a>(
 ) -> Result<Came<'a>, AllocError>
     ensures comes { (s : History) (written : List Row) (f : ℕ) (place : Place) → Flows s written side direction.old rows.old
         → direction.old.stream.first ≡ Some f → IsPlace f direction.old.stream.order.next sequence place
-        → 0 < length octets.now → IfOk result (λ came. Comes s
+        → 0 < length octets.now → IfOk result (λ came. Comes
+        (IsTooFarAhead direction.old.stream.order.next (piece_of place direction.old.stream.order.next packet octets.now)) s
         (with_piece (piece_of place direction.old.stream.order.next packet octets.now) s) written side came
         direction.new rows.new) }
+    ensures free { IfOk result (λ came. IsFree (is_free ≡ true) came direction.old rows.old) }
     ensures puts { IfOk result (λ came. Puts side rows.old rows.new) }
     ensures same { IfOk result (λ came. OnlyFrames came direction.old direction.new) }
 {
@@ -368,8 +302,8 @@ fn put_lent<'a>(
     ensures comes { (s : History) (written : List Row)
         → timed_of side (written ++ rows.old) ≡ raised 0 (all_put s) → direction.old.moment ≡ last_raised 0 (all_put s)
         → Tells (with_put (octets_of next.entry.packet next.entry.begins next.entry.octets.now) s) direction.old.stream
-        → 0 < length next.entry.octets.now → IfOk result (λ came. Comes s s written side came direction.new rows.new) }
-    ensures taken { IfOk result (λ came. came ≡ Came.Outside → ⊥) }
+        → 0 < length next.entry.octets.now → IfOk result (λ came. Comes ⊥ s s written side came direction.new rows.new) }
+    ensures free { IfOk result (λ came. IsFree (is_free ≡ true) came direction.old rows.old) }
     ensures same { IfOk result (λ came. OnlyFrames came direction.old direction.new) }
     ensures puts { Puts side rows.old rows.new }
 {

@@ -23,6 +23,7 @@ returns-then-is_empty-clause-comes c s written is at tells some =
       octets = n.octets.now;
       sessions = replicate (length n.octets.now) d.session;
     } in (
+      λ no. no,
       os,
       row,
       record { sender = refl; moment = refl; octets = refl; sessions = refl },
@@ -54,4 +55,4 @@ returns-clause-comes c s written is at tells some =
     (subst (λ (x : Direction). Tells (with_put os s) x.stream) (sym kept) tells) in
     let h = flows-then s written c.put_all.new.rows c.args.side c.put_all.new.direction os
     (c.in_ok-put_all.ensures.flows (with_put os s) written f) in
-    (h.0, h.1, c.in_ok-put_all.ensures.all)
+    (λ no. no, h.0, h.1, c.in_ok-put_all.ensures.all)

@@ -2,12 +2,12 @@ use Rattle.std.proofs.Common.{refl}
 use Rattle.smq_capture.proofs.Flows.{stays-centre, stays-client, tells-like}
 use Rattle.smq_capture.proofs.flow.Flow.take_passed.Goals as goal
 
-pub returns-in-Client : goal.returns-in-Client
-returns-in-Client c =
+pub returns-in-Client-clause-stays : goal.returns-in-Client-clause-stays
+returns-in-Client-clause-stays c =
     stays-client c.args.self.now (record c.args.self.now.client { stream = c.take_passed.new.self })
     (tells-like c.args.self.now.client.stream c.take_passed.new.self _ c.take_passed.ensures.anew refl refl refl refl refl refl) refl
 
-pub returns-in-Centre : goal.returns-in-Centre
-returns-in-Centre c =
+pub returns-in-Centre-clause-stays : goal.returns-in-Centre-clause-stays
+returns-in-Centre-clause-stays c =
     stays-centre c.args.self.now (record c.args.self.now.centre { stream = c.take_passed-in-Centre.new.self })
     (tells-like c.args.self.now.centre.stream c.take_passed-in-Centre.new.self _ c.take_passed-in-Centre.ensures.anew refl refl refl refl refl refl) refl
