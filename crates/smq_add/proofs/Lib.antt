@@ -2,3 +2,4 @@ pub mod KeyLemmas
 pub mod NumberLemmas
 pub mod RowLemmas
 pub mod SumLemmas
+pub mod ApartLemmas

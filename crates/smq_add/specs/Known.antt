@@ -9,6 +9,9 @@ use Rattle.smq_tally.specs.declared.view.View.TheVariants as v
 use Rattle.smq_tally.specs.Rows.{count_key}
 use Rattle.smq_add.specs.declared.row.Key.TheVariants.{Counted, Listed}
 use Rattle.smq_add.specs.declared.row.Row.{Row}
+use Rattle.smq_report.specs.declared.pick.Section.TheVariants as section
+use Rattle.smq_add.specs.declared.checks.Owner.TheVariants.{Link, Session}
+use Rattle.smq_add.specs.Apart.{MayAdd, owners_from, sections_of}
 use Rattle.smq_add.specs.Checks.{is_whole}
 use Rattle.smq_add.specs.Numbers.{begins_as_number}
 use Rattle.smq_add.specs.Rows.{counts_text, row_line}
@@ -65,6 +68,19 @@ pub record KnowsWholes : Type 0 where
   pub view : is_whole (linked 1 o.Open 1 ∷ []) ≡ false
   pub unlisted : is_whole (linked 1 o.Open 1 ∷ unrouted o.Open 1 ∷ unknown o.Open 1 ∷ []) ≡ false
   pub length : is_whole (linked 1 o.Open 2 ∷ unrouted o.Open 2 ∷ unknown o.Open 2 ∷ opened_count 2 ∷ []) ≡ true
+
+-- Which reports can be added: of links not where two have a link, of periods also then, and no part with a whole.
+pub record KnowsApart : Type 0 where
+  pub owners :
+      owners_from 0 (report_of 1 10 ∷ report_of 2 11 ∷ [])
+      ≡ (Link (record { 0 = 1 }), 0) ∷ (Session (record { 0 = 10 }), 0) ∷ (Link (record { 0 = 2 }), 1) ∷ (Session (record { 0 = 11 }), 1) ∷ []
+  pub sections :
+      sections_of (report_of 1 10 ∷ [])
+      ≡ section.View v.Link ∷ section.View v.Route ∷ section.View v.Network ∷ section.List l.Open ∷ []
+  pub links : MayAdd false (report_of 1 10 ∷ report_of 1 11 ∷ []) → ⊥
+  pub periods : MayAdd true (report_of 1 10 ∷ report_of 1 10 ∷ [])
+  pub views : MayAdd false ((linked 1 o.Open 1 ∷ []) ∷ (linked 2 o.Open 1 ∷ []) ∷ [])
+  pub part : MayAdd true ((linked 1 o.Open 1 ∷ []) ∷ (unrouted o.Open 1 ∷ []) ∷ []) → ⊥
 
 -- Which texts begin as numbers do.
 pub record KnowsNumbers : Type 0 where

@@ -1,7 +1,7 @@
 //! Laws of the definitions: each is the contract of a function with no body.
 ghost use Rattle.std.specs.Prelude.{◌≡◌, ◌++◌, List};
 ghost use Rattle.smq_add.specs.Sums.{sum_of};
-ghost use Rattle.smq_add.specs.Known.{KnowsLines, KnowsNumbers, KnowsSums, KnowsWholes};
+ghost use Rattle.smq_add.specs.Known.{KnowsApart, KnowsLines, KnowsNumbers, KnowsSums, KnowsWholes};
 
 use crate::row::Row;
 
@@ -23,6 +23,11 @@ pub fn known_sums()
 /// Which reports are whole.
 pub fn known_wholes()
     ensures { KnowsWholes }
+{}
+
+/// Which reports can be added.
+pub fn known_apart()
+    ensures { KnowsApart }
 {}
 
 /// Which texts begin as numbers do.
