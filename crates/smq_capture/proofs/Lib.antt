@@ -8,3 +8,6 @@ pub mod Begins
 pub mod Flows
 pub mod KnownFlow
 pub mod Writing
+pub mod Watched
+pub mod CallsOfTops
+pub mod KnownTops

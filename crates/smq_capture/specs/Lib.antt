@@ -15,3 +15,5 @@ pub mod KnownRows
 pub mod Flow
 pub mod KnownFlow
 pub mod Written
+pub mod Tops
+pub mod KnownTops

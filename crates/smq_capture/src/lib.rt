@@ -30,11 +30,14 @@ mod signs;
 mod sink;
 mod strays;
 mod ticks;
+mod tops;
 mod waiting;
 
 pub use capture::{Capture, Options};
 pub use fault::Fault;
-pub use laws::{known_connections, known_flow, known_moments, known_rows, rows_come_once};
+pub use laws::{
+    known_connections, known_flow, known_moments, known_rows, known_tops, rows_come_once, tops_tell,
+};
 pub use links::Link;
 pub use notice::{About, Behind, Busy, Noted, Notice, Sender};
 pub use reading::{Reading, Step};

@@ -13,7 +13,9 @@ pub struct Noted {
 
 impl Noted {
     /// No packets.
-    pub fn none() -> Noted {
+    pub fn none() -> Noted
+        ensures { result ≡ (record { count = 0; first = 0 }) }
+    {
         Noted { count: 0, first: 0 }
     }
 

@@ -1,20 +1,15 @@
 //! What numbers and flags of segments show of a direction beside its octets.
-ghost use Rattle.std.specs.Prelude.{◌≡◌, ◌<◌, ℕ, IfSome, IsSome, IsTrue, [], ◌∷◌, Some, None, false};
+ghost use Rattle.std.specs.Prelude.{◌≡◌, ◌<◌, ◌≤◌, ◌*◌, ◌-◌, ◌^◌, ℕ, List, IfSome, IsSome, IsTrue, IsOk, OnOk, OnErr, [], ◌∷◌, length, max, min, Some, None, false, unwrap_or};
+ghost use Rattle.std.specs.Option.{option_or};
+ghost use Rattle.smq_capture.specs.Tops.{Brought, IsWatched, noted_before, top_before, top_of, with_note};
 
 use crate::ending::{fin_with, is_ended, is_reset};
 use crate::notice::Noted;
 use crate::probe::{Probe, may_be_probe};
 use crate::side::Side;
+use crate::tops::Tops;
 use smq_streams::Stream;
 use std::alloc::{AllocError, Global};
-use std::collections::VecDeque;
-
-/// A packet, and the place behind the last octet that those before it had brought.
-#[derive(Clone, Copy)]
-struct Top {
-    number: u64,
-    before: u64,
-}
 
 /// A gap that was given up, behind which no PDU was seen to begin yet.
 #[derive(Clone, Copy)]
@@ -28,7 +23,7 @@ pub(crate) struct Signs {
     /// Whether a SYN, or the answer to one, told the first octet.
     pub has_syn: bool,
     /// While the other direction waits: what packets of this one brought.
-    tops: VecDeque<Top>,
+    tops: Tops,
     pub sought: Option<Sought>,
     /// The place of a FIN.
     fin: Option<u64>,
@@ -41,10 +36,21 @@ pub(crate) struct Signs {
 
 impl Signs {
     /// Nothing is known.
-    pub(crate) fn new(alloc: Global) -> Signs {
+    pub(crate) fn new(alloc: Global) -> Signs
+        ensures { result ≡ (record {
+          has_syn = false;
+          tops = [];
+          sought = None;
+          fin = None;
+          acknowledged = 0;
+          probe = None;
+          outside = record { count = 0; first = 0 };
+          cut = record { count = 0; first = 0 };
+        }) }
+    {
         Signs {
             has_syn: false,
-            tops: VecDeque::new(alloc),
+            tops: Tops::new(alloc),
             sought: None,
             fin: None,
             acknowledged: 0,
@@ -55,7 +61,9 @@ impl Signs {
     }
 
     /// Takes note that the other end has all octets before a place, if there is one.
-    pub(crate) fn note_acknowledged(&mut self, place: Option<u64>) {
+    pub(crate) fn note_acknowledged(&mut self, place: Option<u64>)
+        ensures { self.new ≡ record self.old { acknowledged = max self.old.acknowledged (unwrap_or place 0) } }
+    {
         self.acknowledged = self.acknowledged.max(place.unwrap_or(0));
     }
 
@@ -103,7 +111,7 @@ impl Signs {
 
     /// Takes note of a FIN at a place.
     pub(crate) fn note_fin(&mut self, place: Option<u64>)
-        ensures { (fin : ℕ) → self.old.fin ≡ Some fin → self.new ≡ self.old }
+        ensures { self.new ≡ record self.old { fin = option_or self.old.fin place } }
     {
         self.fin = fin_with(self.fin, place);
     }
@@ -122,41 +130,36 @@ impl Signs {
         before: u64,
         top: u64,
         waits: bool,
-    ) -> Result<(), AllocError> {
+    ) -> Result<(), AllocError>
+        ensures notes { IsTrue waits
+            → OnOk result (self.new ≡ record self.old { tops = with_note number before top self.old.tops }) }
+        ensures forgets { waits ≡ false → IsOk result × (self.new ≡ record self.old { tops = [] }) }
+        ensures err { OnErr result (self.new ≡ self.old) }
+    {
         if !waits {
             self.tops.clear();
             return Ok(());
         }
-        if before < top {
-            self.tops.push_back(Top { number, before })?;
-        }
-        Ok(())
+        self.tops.note(number, before, top)
     }
 
     /// The place behind all octets that packets before one have, where all have those up to the top; it isn't before the other direction
     /// waits.
-    pub(crate) fn top_before(&self, number: u64, top: u64) -> u64 {
-        let mut low: usize = 0;
-        let mut high = self.tops.len();
-        for _ in 0..64 {
-            if low >= high {
-                break;
-            }
-            let middle = low.saturating_add(high.saturating_sub(low) / 2);
-            match self.tops.get(middle) {
-                Some(top) if top.number < number => low = middle.saturating_add(1),
-                _ => high = middle,
-            }
-        }
-        match self.tops.get(low) {
-            Some(top) => top.before,
-            None => top,
-        }
+    pub(crate) fn top_before(&self, number: u64, top: u64) -> u64
+        ensures value { result ≡ noted_before number top self.now.tops }
+        ensures tells { (from : ℕ) (packets : List Brought) → IsWatched from packets self.now.tops → top ≡ top_of packets
+            → from ≤ number → result ≡ top_before number packets }
+        ensures early { (from : ℕ) (packets : List Brought) → IsWatched from packets self.now.tops → top ≡ top_of packets
+            → number ≤ from → (top_before number packets ≤ result) × (result ≤ top_before from packets) }
+    {
+        self.tops.before(number, top)
     }
 
     /// How much memory it takes, at most.
-    pub(crate) fn weight(&self) -> u64 {
-        (self.tops.len() as u64).saturating_mul(16)
+    pub(crate) fn weight(&self) -> u64
+        ensures { result ≡ min (16 * length self.now.tops) (2 ^ 64 - 1) }
+    {
+        self.tops.weight()
     }
 }
 
