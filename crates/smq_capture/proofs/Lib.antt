@@ -10,4 +10,5 @@ pub mod KnownFlow
 pub mod Writing
 pub mod Watched
 pub mod CallsOfTops
+pub mod NextSessions
 pub mod KnownTops

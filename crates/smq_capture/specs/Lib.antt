@@ -17,3 +17,4 @@ pub mod KnownFlow
 pub mod Written
 pub mod Tops
 pub mod KnownTops
+pub mod GoingOn

@@ -3,6 +3,9 @@
 //! A connection is a session up to its first gap that is given up. The next session begins with the first PDU that is seen to begin
 //! behind that gap; and, in the other direction, with the first PDU that begins behind all octets that packets before the one of that
 //! PDU have. Gaps are taken in the order of the packets behind them, and a session without an octet gives its number to the next.
+ghost use Rattle.std.specs.Prelude.{◌≡◌};
+ghost use Rattle.smq_capture.specs.Flow.{stream_of};
+
 use crate::ended::{Span, Spans};
 use crate::ends::Ends;
 use crate::fault::Fault;
@@ -133,7 +136,9 @@ impl Connection {
     }
 
     /// The octets of a direction.
-    fn stream(&self, side: Side) -> &Stream {
+    fn stream(&self, side: Side) -> &Stream
+        ensures { result.now ≡ stream_of side self.now.flow }
+    {
         &self.flow.of(side).stream
     }
 

@@ -1,6 +1,7 @@
 //! What numbers and flags of segments show of a direction beside its octets.
 ghost use Rattle.std.specs.Prelude.{◌≡◌, ◌<◌, ◌≤◌, ◌*◌, ◌-◌, ◌^◌, ℕ, List, IfSome, IsSome, IsTrue, IsOk, OnOk, OnErr, [], ◌∷◌, length, max, min, Some, None, false, unwrap_or};
 ghost use Rattle.std.specs.Option.{option_or};
+ghost use Rattle.smq_capture.specs.GoingOn.{signs_of};
 ghost use Rattle.smq_capture.specs.Tops.{Brought, IsWatched, noted_before, top_before, top_of, with_note};
 
 use crate::ending::{fin_with, is_ended, is_reset};
@@ -177,7 +178,9 @@ pub(crate) struct Both {
 
 impl Both {
     /// Of the direction of an end.
-    pub(crate) fn of(&self, side: Side) -> &Signs {
+    pub(crate) fn of(&self, side: Side) -> &Signs
+        ensures { result.now ≡ signs_of side self.now }
+    {
         match side {
             Side::Client => &self.client,
             Side::Centre => &self.centre,

@@ -1,4 +1,10 @@
 //! Gaps of a connection that are given up, and the sessions that begin behind them.
+ghost use Rattle.std.specs.Prelude.{◌≡◌, List, IfOk, IfSome, OnOk, Ok, Some, None, false};
+ghost use Rattle.smq_reassembly.specs.Octet.{Octet};
+ghost use Rattle.smq_capture.specs.Flow.{FlowsIn, History, Stays, direction_of, with_direction, with_passed};
+ghost use Rattle.smq_capture.specs.GoingOn.{BeginsWith, FollowsBehind, GoesOn, GoesOnAt, HasOctets, other_of, place_in};
+ghost use Rattle.smq_capture.specs.Rows.{AreInOrder, AreSettledTo, Row};
+
 use crate::connection::Connection;
 use crate::connection::told::tell_gap;
 use crate::fault::Fault;
@@ -157,36 +163,112 @@ impl Connection {
         output: &mut Output<S>,
         side: Side,
         is_end: bool,
-    ) -> Result<Option<u64>, Fault> {
+    ) -> Result<Option<u64>, Fault>
+        ensures goes_on { IfOk result (λ r. IfSome r (λ place. GoesOnAt side is_end self.old.has_rows self.old.last self.old.flow
+            self.old.signs output.old.following place self.new.flow self.new.last)) }
+        ensures none { result ≡ Ok None → (self.new ≡ record self.old { flow = self.new.flow })
+            × ((s : History) (written : List Row) → FlowsIn s written side self.old.flow
+            → (passed : List Octet) × FlowsIn (with_passed passed s) written side self.new.flow) }
+        ensures rest { self.new ≡ record self.old {
+          flow = self.new.flow;
+          last = self.new.last;
+          has_rows = self.new.has_rows;
+          lines = self.new.lines;
+        } }
+    {
         let Some(found) = self.flow.search(side, is_end)? else {
             return Ok(None);
         };
-        self.settle(side, None)?;
-        if self.stream(side).is_behind_gap() {
-            let top = self.stream(side.other()).top();
-            let place = self.signs.of(side.other()).top_before(found.number, top);
-            self.settle(side.other(), Some(place))?;
-            if self.has_rows {
-                self.begin_session(output, side, found.number, place)?;
-            }
-        }
-        self.flow.begin_session(side, self.last);
+        self.begin_with(output, side, found.number)?;
         self.flow.put_all(output.alloc, side)?;
         Ok(Some(found.place))
     }
 
-    /// Begins the next session with a packet: the other direction is in it from a place on.
+    /// Begins with the next octets of a direction, which a packet brought: behind a gap as the next session.
+    fn begin_with<S: Sink>(
+        &mut self,
+        output: &mut Output<S>,
+        side: Side,
+        number: u64,
+    ) -> Result<(), AllocError>
+        ensures begins { OnOk result (BeginsWith side number self.old.has_rows self.old.last self.old.flow self.old.signs
+            output.old.following self.new.flow self.new.last) }
+        ensures stays { Stays self.old.flow self.new.flow }
+        ensures rest { self.new ≡ record self.old {
+          flow = self.new.flow;
+          last = self.new.last;
+          has_rows = self.new.has_rows;
+          lines = self.new.lines;
+        } }
+    {
+        self.settle(side, None)?;
+        if self.stream(side).is_behind_gap() {
+            self.end_last(output, side, number)?;
+        }
+        self.flow.begin_session(side, self.last);
+        Ok(())
+    }
+
+    /// Ends the last session behind a gap of a direction with octets that a packet brought: in the other direction with all octets that
+    /// packets before that one have. A session without an octet goes on.
+    fn end_last<S: Sink>(
+        &mut self,
+        output: &mut Output<S>,
+        side: Side,
+        number: u64,
+    ) -> Result<(), AllocError>
+        ensures ends { HasOctets self.old.has_rows self.old.last self.old.flow.rows self.new.flow.rows
+            → OnOk result ((self.new.last ≡ output.old.following)
+            × FollowsBehind (other_of side) number self.old.flow self.old.signs self.new.last self.new.flow) }
+        ensures goes_on { (HasOctets self.old.has_rows self.old.last self.old.flow.rows self.new.flow.rows → ⊥)
+            → OnOk result (GoesOn (other_of side) self.old.flow self.old.last self.new.flow self.new.last) }
+        ensures below { AreInOrder (other_of side) self.old.flow.rows → OnOk result (AreSettledTo
+            (Some (place_in (other_of side) number self.old.flow self.old.signs)) (other_of side) self.old.flow.rows
+            self.new.flow.rows) }
+        ensures own { direction_of side self.new.flow ≡ direction_of side self.old.flow }
+        ensures none { OnOk result (self.new.has_rows ≡ false) }
+        ensures stays { Stays self.old.flow self.new.flow }
+        ensures rest { self.new ≡ record self.old {
+          flow = self.new.flow;
+          last = self.new.last;
+          has_rows = self.new.has_rows;
+          lines = self.new.lines;
+        } }
+    {
+        let other = side.other();
+        let top = self.stream(other).top();
+        let place = self.signs.of(other).top_before(number, top);
+        self.settle(other, Some(place))?;
+        if self.has_rows {
+            self.begin_session(output, other, number, place)?;
+        }
+        Ok(())
+    }
+
+    /// Begins the next session with a packet: a direction is in it from a place on.
     fn begin_session<S: Sink>(
         &mut self,
         output: &mut Output<S>,
         side: Side,
         number: u64,
         place: u64,
-    ) -> Result<(), AllocError> {
+    ) -> Result<(), AllocError>
+        ensures next { self.new.last ≡ output.old.following }
+        ensures follows { self.new.flow ≡ with_direction side (record (direction_of side self.old.flow) {
+          following = Some (record { session = self.new.last; place = place });
+        }) self.old.flow }
+        ensures stays { Stays self.old.flow self.new.flow }
+        ensures rest { self.new ≡ record self.old {
+          flow = self.new.flow;
+          last = self.new.last;
+          has_rows = false;
+          lines = self.new.lines;
+        } }
+    {
         let session = output.next_session();
         self.last = session;
         self.has_rows = false;
-        self.flow.follow(side.other(), session, place);
+        self.flow.follow(side, session, place);
         self.lines.push_back(SessionLine {
             session,
             link: self.link,

@@ -1,7 +1,11 @@
 //! The rows of a connection: which session each octet is of, and when it is written.
-ghost use Rattle.std.specs.Prelude.{◌≡◌, List, OnOk};
+ghost use Rattle.std.specs.Prelude.{◌≡◌, ◌↔◌, ℕ, List, IsTrue, OnOk, Some, None};
 ghost use Rattle.std.specs.Io.KnownBytes.{Appends};
-ghost use Rattle.smq_capture.specs.Rows.{AreParts, Part};
+ghost use Rattle.std.specs.List.{AllZip};
+ghost use Rattle.smq_capture.specs.Flow.{Stays, direction_of, with_direction};
+ghost use Rattle.smq_capture.specs.GoingOn.{HasOctets};
+ghost use Rattle.smq_capture.specs.Rows.{AreInOrder, AreParts, AreSettledTo, Part, SettlesBefore};
+ghost use Rattle.smq_capture.specs.Sessions.{Goes};
 ghost use Rattle.smq_capture.specs.Written.{parts_text};
 
 use crate::connection::Connection;
@@ -99,7 +103,21 @@ impl Connection {
     }
 
     /// Tells the rows of a direction their sessions, in order, up to a place of it.
-    pub(crate) fn settle(&mut self, side: Side, until: Option<u64>) -> Result<(), AllocError> {
+    pub(crate) fn settle(&mut self, side: Side, until: Option<u64>) -> Result<(), AllocError>
+        ensures stays { Stays self.old.flow self.new.flow }
+        ensures goes { Goes (direction_of side self.old.flow) (direction_of side self.new.flow) }
+        ensures all { until ≡ None → OnOk result (AreSettledTo until side self.old.flow.rows self.new.flow.rows) }
+        ensures below { AreInOrder side self.old.flow.rows
+            → OnOk result (AreSettledTo until side self.old.flow.rows self.new.flow.rows) }
+        ensures before { (place : ℕ) → until ≡ Some place
+            → AllZip (SettlesBefore place) self.old.flow.rows self.new.flow.rows }
+        ensures octets { OnOk result (IsTrue self.new.has_rows ↔ HasOctets self.old.has_rows self.old.last self.old.flow.rows
+            self.new.flow.rows) }
+        ensures rest { self.new ≡ record self.old {
+          flow = record (with_direction side (direction_of side self.new.flow) self.old.flow) { rows = self.new.flow.rows };
+          has_rows = self.new.has_rows;
+        } }
+    {
         if self.flow.settle(side, until, self.last)? {
             self.has_rows = true;
         }
