@@ -34,7 +34,7 @@ returns-clause-begins g c =
     elim c.if-is_behind_gap.branch [
       | then-is_behind_gap+in_ok-end_last w ↦
           let done : Ended side c.args.number mid.has_rows mid.last mid.flow mid.signs next w.end_last.new.self.flow
-              w.end_last.new.self.last = record {
+          w.end_last.new.self.last = record {
             ends = w.in_ok-end_last.ensures.ends;
             goes_on = w.in_ok-end_last.ensures.goes_on;
             own = w.end_last.ensures.own;
