@@ -11,7 +11,7 @@ use Rattle.smq_capture.specs.declared.side.Side.{Side}
 use Rattle.smq_capture.specs.declared.side.Side.TheVariants.{Client, Centre}
 use Rattle.smq_capture.specs.declared.signs.Both.{Both}
 use Rattle.smq_capture.specs.declared.signs.Signs.{Signs}
-use Rattle.smq_capture.specs.Flow.{FlowsIn, History, direction_of, stream_of, with_put}
+use Rattle.smq_capture.specs.Flow.{FlowsIn, History, OnlyPuts, direction_of, stream_of, with_put}
 use Rattle.smq_capture.specs.Rows.{AreSettledTo, Row, SomeEndsIn}
 use Rattle.smq_capture.specs.Sessions.{Goes}
 use Rattle.smq_capture.specs.Tops.{Brought, IsWatched, noted_before, top_before, top_of}
@@ -89,3 +89,4 @@ pub record GoesOnAt (side : Side) (is_end has_rows : Bool) (last : ℕ) (before 
   pub begins : BeginsWith side number has_rows last found signs next begun session
   pub puts : (s : History) (written : List Row) → FlowsIn s written side begun
       → (more : List Octet) × FlowsIn (with_put more s) written side after
+  pub keeps : OnlyPuts (direction_of side begun) (direction_of side after)

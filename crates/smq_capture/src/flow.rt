@@ -204,6 +204,7 @@ impl Flow {
         ensures puts { (s : History) (written : List Row) → FlowsIn s written side self.old
             → OnOk result ((more : List Octet) × FlowsIn (with_put more s) written side self.new) }
         ensures all { OnOk result (IsThrough (direction_of side self.new).stream) }
+        ensures same { OnlyPuts (direction_of side self.old) (direction_of side self.new) }
         ensures other { OtherStays side self.old self.new }
     {
         let _ = match side {

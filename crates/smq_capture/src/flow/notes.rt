@@ -1,5 +1,5 @@
 //! What numbers and moments of packets tell the directions of a flow, and the sessions that begin in them.
-ghost use Rattle.std.specs.Prelude.{◌≡◌, ℕ, ◌<◌, ◌≤◌, length, [], OnOk, OnErr, MatchOption, Some, None, true, unwrap_or, if◌then◌else◌};
+ghost use Rattle.std.specs.Prelude.{◌≡◌, ℕ, ◌<◌, ◌≤◌, length, [], OnOk, OnErr, MatchOption, Some, None, false, true, unwrap_or, if◌then◌else◌};
 ghost use Rattle.std.specs.Option.{option_or};
 ghost use Rattle.smq_reassembly.specs.Piece.{first_place};
 ghost use Rattle.smq_reassembly.specs.Sequence.{IsPlace};

@@ -18,6 +18,7 @@ returns-clause-goes_on g c =
       };
       begins = c.in_ok-begin_with.ensures.begins;
       puts = c.in_ok-put_all.ensures.puts;
+      keeps = c.in_ok-put_all.ensures.same;
     }
   where
     looks : (b : Bool) → (stream_of c.args.side c.args.self.now.flow).is_searching ≡ b
