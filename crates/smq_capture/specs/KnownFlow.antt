@@ -1,5 +1,5 @@
 -- What the definitions give for some known octets and rows of a direction.
-use Rattle.std.specs.Prelude.{◌≡◌, ℕ, false, List, [], ◌∷◌, Some}
+use Rattle.std.specs.Prelude.{◌≡◌, ℕ, false, true, List, [], ◌∷◌, Some}
 use Rattle.smq_reassembly.specs.Octet.{Octet}
 use Rattle.smq_streams.specs.KnownCalls.{after_gap, before_gap, came}
 use Rattle.smq_capture.specs.declared.direction.Direction.{Direction}
@@ -8,8 +8,10 @@ use Rattle.smq_capture.specs.declared.flow.AtOnce.{AtOnce}
 use Rattle.smq_capture.specs.declared.flow.Came.TheVariants as came
 use Rattle.smq_capture.specs.declared.flow.Flow.{Flow}
 use Rattle.smq_capture.specs.declared.side.Side.{Side}
+use Rattle.smq_capture.specs.declared.signs.Both.{Both}
 use Rattle.smq_capture.specs.declared.side.Side.TheVariants.{Client, Centre}
 use Rattle.smq_capture.specs.Flow.{AreParts, Comes, Ended, History, IsFree, all_put, direction_of, last_raised, nothing, raised, timed_of, with_direction, with_gap, with_passed, with_put}
+use Rattle.smq_capture.specs.GoingOn.{HasOctets, other_of, signs_of}
 use Rattle.smq_capture.specs.KnownRows.{five, two}
 use Rattle.smq_capture.specs.Rows.{Row}
 
@@ -50,6 +52,14 @@ pub record KnowsFlow : Type 0 where
   pub centre_is : (flow : Flow) → direction_of Centre flow ≡ flow.centre
   pub client_with : (d : Direction) (flow : Flow) → with_direction Client d flow ≡ record flow { client = d }
   pub centre_with : (d : Direction) (flow : Flow) → with_direction Centre d flow ≡ record flow { centre = d }
+  pub client_other : other_of Client ≡ Centre
+  pub centre_other : other_of Centre ≡ Client
+  pub client_signs : (both : Both) → signs_of Client both ≡ both.client
+  pub centre_signs : (both : Both) → signs_of Centre both ≡ both.centre
+  -- a session has octets where it had, or one is settled as of it, and not where one is settled as of another
+  pub had : HasOctets true 3 [] []
+  pub settled : HasOctets false 3 (five [] ∷ []) (five (3 ∷ []) ∷ [])
+  pub other : HasOctets false 4 (five [] ∷ []) (five (3 ∷ []) ∷ []) → ⊥
   -- nothing is written at once behind a row that waits, nor where another session follows; and what was taken wasn't too far ahead
   pub waits : (given : AtOnce) (d : Direction) (row : Row) → IsFree (Unit {0}) (came.AtOnce given) d (row ∷ []) → ⊥
   pub follows : (given : AtOnce) (d : Direction) (f : Following) → d.following ≡ Some f → IsFree (Unit {0}) (came.AtOnce given) d [] → ⊥
