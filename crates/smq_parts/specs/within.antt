@@ -1,0 +1,2 @@
+-- What only private clauses cite: texts that wait.
+pub mod Waiting
