@@ -23,7 +23,7 @@ use Rattle.smq_report.specs.declared.pick.Format.{Format}
 use Rattle.smq_report.specs.declared.pick.Format.TheVariants as format
 use Rattle.smq_report.specs.declared.pick.Pick.{Pick}
 use Rattle.smq_report.specs.declared.pick.Pick.TheVariants as pick
-use Rattle.smq_words.specs.Words.{TakesNames, file_rule, flag_rule, format_name, format_names, format_rule, link_rule, name_rule, option_rule, optional_rule, quiet_rule, repeated_rule, settings_rule, strict_rule}
+use Rattle.smq_words.specs.Words.{TakesNames, file_rule, flag_rule, format_name, format_names, format_rule, link_rule, name_rule, option_rule, optional_rule, parts_rule, quiet_rule, repeated_rule, settings_rule, strict_rule}
 use Rattle.smq_words.proofs.LevelLemmas.{AllKeep, DefaultsFit, IfHas, Keeps, append_keeps, flag_keeps, flagged, help_keeps, set_keeps, set_once, some_kind}
 
 -- ---- names
@@ -228,6 +228,16 @@ pub live_keep : (N : Text → Type 0) (rest : List Rule) → AllKeep (Known N) r
 live_keep N rest keep = (
   set_keeps (Known N) (filled (option_rule (codes "every"))) (λ v h. other_known N (codes "every") v refl refl refl),
   (append_keeps (Known N) (filled (repeated_rule (codes "ask"))) (λ v h. other_known N (codes "ask") v refl refl refl), keep),
+)
+
+-- the rules of the scripts to which rows go, before others
+abbrev pub parts_built : List Rule → List Rule
+parts_built rest = filled (option_rule (codes "into")) ∷ filled parts_rule ∷ rest
+
+pub parts_keep : (N : Text → Type 0) (rest : List Rule) → AllKeep (Known N) rest → AllKeep (Known N) (parts_built rest)
+parts_keep N rest keep = (
+  set_keeps (Known N) (filled (option_rule (codes "into"))) (λ v h. other_known N (codes "into") v refl refl refl),
+  (set_keeps (Known N) (filled parts_rule) (λ v h. other_known N (codes "parts") v refl refl refl), keep),
 )
 
 -- the length of a window, an option before others

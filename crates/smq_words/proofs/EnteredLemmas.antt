@@ -16,7 +16,7 @@ use Rattle.smq_words.specs.declared.orders.Task.{Task}
 use Rattle.smq_words.specs.declared.orders.Task.TheVariants.{Add, Capture, Count, Follow, Run, Total, Window}
 use Rattle.smq_words.specs.Words.{Asks, CaptureTexts, CountingTexts, HasCaptures, HasFlag, IsQueried, Say, TakesNames, add_app, capture_app, columns_rule, count_app, counting_in, follow_app, format_names, length_rule, name_rule, named_app, option_rule, optional_rule, options_app, periods_rule, repeated_rule, reports_rule, required_link_rule, settings_app, subcommand_name, values_of, window_app}
 use Rattle.smq_words.proofs.LevelLemmas.{Fit, IfHas, append_keeps, first_fit, given_fit, level_fit, read_fit, set_keeps, some_kind}
-use Rattle.smq_words.proofs.ArgumentLemmas.{IsFlagText, IsFormatName, IsPickName, Known, Nameless, captures_default, captures_keep, file_built, flag_known, format_keeps, format_known, help_built, help_default, help_keep, is_flag, known_flag_keeps, known_read, live_built, live_keep, name_keeps, none_known, not_given, of_known, optional_keeps, other_known, pick_known, reading_default, reading_keep, settings_keeps, window_built, window_keep}
+use Rattle.smq_words.proofs.ArgumentLemmas.{IsFlagText, IsFormatName, IsPickName, Known, Nameless, captures_default, captures_keep, file_built, flag_known, format_keeps, format_known, help_built, help_default, help_keep, is_flag, known_flag_keeps, known_read, live_built, live_keep, name_keeps, none_known, not_given, of_known, optional_keeps, other_known, parts_built, parts_keep, pick_known, reading_default, reading_keep, settings_keeps, window_built, window_keep}
 
 abbrev pub settings_built : Text → Shape
 settings_built name = built_leaf (record (settings_app name).top { no_binary_name = true })
@@ -68,6 +68,8 @@ captures_said N rows fit =
         losses = first_of (codes "losses") rows;
         every = first_of (codes "every") rows;
         questions = values_of (codes "ask") rows;
+        into = first_of (codes "into") rows;
+        by = first_of (codes "parts") rows;
         is_strict = strictly.0;
         is_quiet = quietly.0;
       },
@@ -79,6 +81,8 @@ captures_said N rows fit =
         losses = refl;
         every = refl;
         questions = refl;
+        into = refl;
+        by = refl;
         strict = strictly.1;
         quiet = quietly.1;
       },
@@ -112,11 +116,16 @@ capture_asked words clean =
     let s = capture_built in
     let fit = (level_fit (Known Nameless) s (
       append_keeps (Known Nameless) (filled required_link_rule) (λ v h. other_known Nameless (codes "link") v refl refl refl),
-      reading_keep Nameless (live_built (file_built ∷ help_built)) (live_keep Nameless (file_built ∷ help_built) (
-        append_keeps (Known Nameless) file_built (λ v h. other_known Nameless (codes "FILE") v refl refl refl),
-        help_keep Nameless,
-      )),
-    ) (tt, reading_default Nameless (live_built (file_built ∷ help_built)) (tt, (tt, (tt, help_default Nameless)))) words clean).0 in
+      reading_keep Nameless (live_built (parts_built (file_built ∷ help_built)))
+          (live_keep Nameless (parts_built (file_built ∷ help_built)) (parts_keep Nameless (file_built ∷ help_built) (
+            append_keeps (Known Nameless) file_built (λ v h. other_known Nameless (codes "FILE") v refl refl refl),
+            help_keep Nameless,
+          ))),
+    ) (
+      tt,
+      reading_default Nameless (live_built (parts_built (file_built ∷ help_built)))
+          (tt, (tt, (tt, (tt, (tt, help_default Nameless))))),
+    ) words clean).0 in
     task_asked Nameless Capture (rows_after s.rules [] words) fit tt
 
 -- rows in which a format is known, and no name is given

@@ -29,7 +29,8 @@ no_flags = not_given (codes "strict") ∷ not_given (codes "quiet") ∷ []
 -- a path, a window's length, what is counted by, and the words of captures, with their flags as texts
 abbrev Texts : Type 0
 Texts =
-    Option Text × Option Text × CountingTexts × List Text × List Text × Option Text × Option Text × Option Text × Option Text × List Text × Text × Text
+    Option Text × Option Text × CountingTexts × List Text × List Text × Option Text × Option Text × Option Text × Option Text × List Text
+    × Option Text × Option Text × Text × Text
 
 -- rows ask for a task where they say what it does, and each of their other texts is the one that is asked for
 pub asks : {entered : Option (Text × List Row)} {task : Task} {path window : Option Text} {counting : CountingTexts} {captures : CaptureTexts}
@@ -45,6 +46,8 @@ pub asks : {entered : Option (Text × List Row)} {task : Task} {path window : Op
       first_of (codes "losses") rows,
       first_of (codes "every") rows,
       values_of (codes "ask") rows,
+      first_of (codes "into") rows,
+      first_of (codes "parts") rows,
       unwrap_or (one_of (codes "strict") rows) (codes "false"),
       unwrap_or (one_of (codes "quiet") rows) (codes "false"),
     ) (
@@ -58,6 +61,8 @@ pub asks : {entered : Option (Text × List Row)} {task : Task} {path window : Op
       captures.losses,
       captures.every,
       captures.questions,
+      captures.into,
+      captures.by,
       bool_text captures.is_strict,
       bool_text captures.is_quiet,
     )
@@ -77,7 +82,9 @@ asks rows say enters same = record {
     losses = ap (λ it. it.7) same;
     every = ap (λ it. it.8) same;
     questions = ap (λ it. it.9) same;
-    strict = ap (λ it. it.10) same;
-    quiet = ap (λ it. it.11) same;
+    into = ap (λ it. it.10) same;
+    by = ap (λ it. it.11) same;
+    strict = ap (λ it. it.12) same;
+    quiet = ap (λ it. it.13) same;
   };
 }

@@ -30,6 +30,8 @@ no_captures = record {
   losses = None;
   every = None;
   questions = [];
+  into = None;
+  by = None;
   is_strict = false;
   is_quiet = false;
 }
@@ -116,7 +118,8 @@ pub record KnowsLines : Type 0 where
   pub format : HasFault (codes "messages" ∷ codes "--format" ∷ codes "csv" ∷ []) (UnknownArgument ∷ [])
   pub name : HasFault (codes "receipts" ∷ codes "link" ∷ []) (UnknownArgument ∷ [])
 
--- words of `capture`: it takes a link or more, captures, how they are read and whether nothing is told meanwhile, and no path of settings
+-- words of `capture`: it takes a link or more, captures, how they are read and whether nothing is told meanwhile, to which scripts rows go, and no
+-- path of settings; only it takes these scripts
 pub record KnowsCapture : Type 0 where
   pub captures : AskWith (codes "capture" ∷ codes "--link" ∷ codes "2775=1" ∷ codes "a.pcap" ∷ []) Capture None
       (captures_at (codes "a.pcap" ∷ []) (codes "2775=1" ∷ []))
@@ -131,6 +134,13 @@ pub record KnowsCapture : Type 0 where
       (record (captures_at [] (codes "1=1" ∷ [])) { every = Some (codes "60"); questions = codes "link" ∷ codes "count link,network" ∷ [] })
   pub quiet : AskWith (codes "capture" ∷ codes "--link" ∷ codes "1=1" ∷ codes "--quiet" ∷ []) Capture None
       (record (captures_at [] (codes "1=1" ∷ [])) { is_quiet = true })
+  pub into : AskWith (codes "capture" ∷ codes "--link" ∷ codes "1=1" ∷ codes "--into" ∷ codes "f" ∷ []) Capture None
+      (record (captures_at [] (codes "1=1" ∷ [])) { into = Some (codes "f") })
+  pub parts : AskWith (codes "capture" ∷ codes "--link" ∷ codes "1=1" ∷ codes "--by=day" ∷ codes "--into" ∷ codes "f" ∷ codes "a" ∷ []) Capture None
+      (record (captures_at (codes "a" ∷ []) (codes "1=1" ∷ [])) { into = Some (codes "f"); by = Some (codes "day") })
+  pub parts_twice : HasFault
+      (codes "capture" ∷ codes "--link" ∷ codes "1=1" ∷ codes "--into" ∷ codes "f" ∷ codes "--into" ∷ codes "g" ∷ []) (ArgumentConflict ∷ [])
+  pub parts_of_report : HasFault (codes "report" ∷ codes "--into" ∷ codes "f" ∷ []) (UnknownArgument ∷ [])
   pub no_link : HasFault (codes "capture" ∷ codes "a.pcap" ∷ []) (MissingRequiredArgument ∷ [])
   pub settings : HasFault (codes "capture" ∷ codes "--link" ∷ codes "1=1" ∷ codes "--settings" ∷ codes "p" ∷ []) (UnknownArgument ∷ [])
 

@@ -128,6 +128,10 @@ strict_rule = flag_rule (codes "strict")
 abbrev pub quiet_rule : Rule
 quiet_rule = flag_rule (codes "quiet")
 
+-- `--by` of `capture`, with one value, any text; its id is `parts`
+abbrev pub parts_rule : Rule
+parts_rule = record (new_rule (codes "parts")) { long = Some (codes "by"); action = Some Set; value_names = 1 }
+
 -- FILE, which may be left out and may come again
 abbrev pub file_rule : Rule
 file_rule = record (new_rule (codes "FILE")) { action = Some Append }
@@ -165,6 +169,10 @@ captures_rules = repeated_rule (codes "capture") ∷ link_rule ∷ reading_rules
 abbrev pub live_rules : List Rule
 live_rules = option_rule (codes "every") ∷ repeated_rule (codes "ask") ∷ []
 
+-- to which scripts rows go
+abbrev pub parts_rules : List Rule
+parts_rules = option_rule (codes "into") ∷ parts_rule ∷ []
+
 -- a subcommand with `--settings` and the options of captures, as `check`, `messages` and `receipts` are
 abbrev pub settings_app : Text → App
 settings_app name = with_rules (with_rule (new_app name) settings_rule) captures_rules
@@ -192,10 +200,12 @@ count_app =
     settings_rule)
     captures_rules
 
--- `capture`: its links, how captures are read, what is asked while packets come, and the captures
+-- `capture`: its links, how captures are read, what is asked while packets come, to which scripts rows go, and the captures
 abbrev pub capture_app : App
 capture_app =
-    with_rule (with_rules (with_rules (with_rule (new_app (codes "capture")) required_link_rule) reading_rules) live_rules) file_rule
+    with_rule
+    (with_rules (with_rules (with_rules (with_rule (new_app (codes "capture")) required_link_rule) reading_rules) live_rules) parts_rules)
+    file_rule
 
 -- `window`: its length alone
 abbrev pub window_app : App
@@ -306,6 +316,8 @@ pub record CaptureTexts : Type 0 where
   pub losses : Option Text
   pub every : Option Text
   pub questions : List Text
+  pub into : Option Text
+  pub by : Option Text
   pub is_strict : Bool
   pub is_quiet : Bool
 
@@ -319,6 +331,8 @@ texts_of_captures captures = record {
   losses = option_map string_bytes captures.losses;
   every = option_map string_bytes captures.every;
   questions = map string_bytes captures.questions.items;
+  into = option_map string_bytes captures.into;
+  by = option_map string_bytes captures.by;
   is_strict = captures.is_strict;
   is_quiet = captures.is_quiet;
 }
@@ -347,6 +361,8 @@ pub record HasCaptures (rows : List Row) (texts : CaptureTexts) : Type 0 where
   pub losses : first_of (codes "losses") rows ≡ texts.losses
   pub every : first_of (codes "every") rows ≡ texts.every
   pub questions : values_of (codes "ask") rows ≡ texts.questions
+  pub into : first_of (codes "into") rows ≡ texts.into
+  pub by : first_of (codes "parts") rows ≡ texts.by
   pub strict : HasFlag (codes "strict") rows texts.is_strict
   pub quiet : HasFlag (codes "quiet") rows texts.is_quiet
 

@@ -2,7 +2,7 @@
 ghost use Rattle.std.specs.Prelude.{◌≡◌, IfOk, codes};
 ghost use Rattle.clap.specs.Words.{app_of};
 ghost use Rattle.clap.specs.declared.builder.command.Command.TheViews.{out-Command as fields_of};
-ghost use Rattle.smq_words.specs.Words.{IsArgument, captures_rules, file_rule, link_rule, live_rules, option_rule, quiet_rule};
+ghost use Rattle.smq_words.specs.Words.{IsArgument, captures_rules, file_rule, link_rule, live_rules, option_rule, parts_rule, parts_rules, quiet_rule};
 ghost use Rattle.smq_words.specs.Words.{reading_rules, repeated_rule, required_link_rule, strict_rule, with_rules};
 
 use clap::{Arg, ArgAction, Command};
@@ -42,6 +42,16 @@ pub fn with_live<'a>(alloc: Global, command: Command<'a>) -> Result<Command<'a>,
         (fields_of made).has_globals ≡ (fields_of command.entry).has_globals) }
 {
     command.arg(every_option(alloc))?.arg(ask_option(alloc))
+}
+
+/// The subcommand, and to which scripts rows go.
+pub fn with_parts<'a>(alloc: Global, command: Command<'a>) -> Result<Command<'a>, AllocError>
+    ensures rules { IfOk result (λ made.
+        app_of made ≡ with_rules (app_of command.entry) parts_rules) }
+    ensures local { IfOk result (λ made.
+        (fields_of made).has_globals ≡ (fields_of command.entry).has_globals) }
+{
+    command.arg(into_option(alloc))?.arg(by_option(alloc))
 }
 
 fn capture_option<'a>(alloc: Global) -> Arg<'a>
@@ -148,6 +158,30 @@ fn ask_option<'a>(alloc: Global) -> Arg<'a>
             "What is asked every so many seconds and at the end: a view, a list, report, or count and columns, as 'count link,network'; may come again",
         )
         .action(ArgAction::Append)
+}
+
+fn into_option<'a>(alloc: Global) -> Arg<'a>
+    ensures { IsArgument (option_rule (codes "into")) result }
+{
+    Arg::new(alloc, "into")
+        .long("into")
+        .value_name("FOLDER")
+        .help(
+            "Write a script for each link and day into FOLDER, rather than one to standard output",
+        )
+        .action(ArgAction::Set)
+}
+
+fn by_option<'a>(alloc: Global) -> Arg<'a>
+    ensures { IsArgument parts_rule result }
+{
+    Arg::new(alloc, "parts")
+        .long("by")
+        .value_name("COLUMNS")
+        .help(
+            "What --into has a script for each of: link, day (in UTC), or link,day (where none is given)",
+        )
+        .action(ArgAction::Set)
 }
 
 pub fn file_argument<'a>(alloc: Global) -> Arg<'a>

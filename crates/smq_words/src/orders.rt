@@ -82,6 +82,10 @@ pub struct Captures {
     pub every: Option<String>,
     /// Each --ask.
     pub questions: Vec<String>,
+    /// The folder of --into, if given.
+    pub into: Option<String>,
+    /// The --by of `capture`, if given.
+    pub by: Option<String>,
     /// Whether --strict is given.
     pub is_strict: bool,
     /// Whether --quiet is given: nothing is told of how far it is.
@@ -99,6 +103,8 @@ impl Captures {
             losses: None,
             every: None,
             questions: Vec::new(alloc),
+            into: None,
+            by: None,
             is_strict: false,
             is_quiet: false,
         }

@@ -10,7 +10,9 @@ ghost use Rattle.smq_words.specs.Words.{format_rule, name_rule, named_app, optio
 ghost use Rattle.smq_words.specs.Words.{texts_of, version_text, window_app, with_any_length};
 
 use crate::add_rules::{periods_flag, reports_argument};
-use crate::capture_rules::{file_argument, required_link, with_captures, with_live, with_reading};
+use crate::capture_rules::{
+    file_argument, required_link, with_captures, with_live, with_parts, with_reading,
+};
 use crate::count_rules::{columns_option, condition_option};
 use crate::help::{
     ABOUT, ADD, ADD_MORE, CAPTURE, CAPTURE_MORE, CHECK, COUNT, FOLLOW, Help, MESSAGES, QUERY,
@@ -217,7 +219,8 @@ fn capture_command<'a>(alloc: Global) -> Result<Command<'a>, AllocError>
 {
     let linked = subcommand(alloc, "capture", CAPTURE, CAPTURE_MORE).arg(required_link(alloc))?;
     let read = with_reading(alloc, linked)?;
-    with_live(alloc, read)?.arg(file_argument(alloc))
+    let live = with_live(alloc, read)?;
+    with_parts(alloc, live)?.arg(file_argument(alloc))
 }
 
 /// The subcommand that writes the rows of the last so many minutes, and its help.

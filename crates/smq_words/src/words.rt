@@ -161,6 +161,8 @@ fn captures_of(alloc: Global, entered: &ArgMatches) -> Result<Captures, AllocErr
         losses: given_text(alloc, entered, "losses")?,
         every: given_text(alloc, entered, "every")?,
         questions: given_texts(alloc, entered, "ask")?,
+        into: given_text(alloc, entered, "into")?,
+        by: given_text(alloc, entered, "parts")?,
         is_strict: is_given(entered, "strict"),
         is_quiet: is_given(entered, "quiet"),
     })

@@ -13,6 +13,10 @@ known = record {
   options = λ names formats. asks (given (codes "link") (codes "1=1" ∷ []) ∷ given (codes "strict") (codes "true" ∷ []) ∷ given (codes "index") (codes "i" ∷ []) ∷ given (codes "losses") (codes "l" ∷ []) ∷ given (codes "first-session") (codes "7" ∷ []) ∷ not_given (codes "quiet") ∷ []) tt refl refl;
   live = λ names formats. asks (given (codes "link") (codes "1=1" ∷ []) ∷ given (codes "every") (codes "60" ∷ []) ∷ given (codes "ask") (codes "link" ∷ codes "count link,network" ∷ []) ∷ no_flags) tt refl refl;
   quiet = λ names formats. asks (given (codes "link") (codes "1=1" ∷ []) ∷ given (codes "quiet") (codes "true" ∷ []) ∷ not_given (codes "strict") ∷ []) tt refl refl;
+  into = λ names formats. asks (given (codes "link") (codes "1=1" ∷ []) ∷ given (codes "into") (codes "f" ∷ []) ∷ no_flags) tt refl refl;
+  parts = λ names formats. asks (given (codes "link") (codes "1=1" ∷ []) ∷ given (codes "parts") (codes "day" ∷ []) ∷ given (codes "into") (codes "f" ∷ []) ∷ given (codes "FILE") (codes "a" ∷ []) ∷ no_flags) tt refl refl;
+  parts_twice = λ names formats. refl;
+  parts_of_report = λ names formats. refl;
   no_link = λ names formats. refl;
   settings = λ names formats. refl;
 }
