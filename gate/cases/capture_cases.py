@@ -90,7 +90,7 @@ def unread_faults(program, room):
 def help_faults(program):
     """Yields which words of captures the help of a subcommand lacks."""
     words, live = ("--link", "--first-session", "--strict", "--index", "--losses"), ("--every", "--ask")
-    for command, own in (("capture", ("[FILE]", *live)), ("report", ("--capture",)), ("follow", ("--capture", *live))):
+    for command, own in (("capture", ("[FILE]", "--into", "--by", *live)), ("report", ("--capture",)), ("follow", ("--capture", *live))):
         lines, told_lines, status = run(program, [command, "--help"])
         absent = [it for it in (*own, *words) if not any(it in line for line in lines)]
         yield differs(f"{command} --help", ([], [], 0), (absent, told_lines, status))

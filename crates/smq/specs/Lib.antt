@@ -1,3 +1,4 @@
 pub mod Statuses
 pub mod Known
 pub mod CaptureRows
+pub mod Scripts

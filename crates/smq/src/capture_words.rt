@@ -2,6 +2,7 @@
 use clap::Error;
 use smq_capture::{Link, Options};
 use smq_packets::Address;
+use smq_parts::By;
 use smq_words::{Captures, bad_words};
 use std::alloc::{AllocError, Global};
 use std::net::IpAddr;
@@ -31,6 +32,37 @@ pub fn options_of(
         every: every_of(alloc, &captures.every)?,
         tells_long_scripts,
     })
+}
+
+/// What the rows of captures are split by, where they are.
+pub fn by_of(alloc: Global, captures: &Captures) -> Result<Option<By>, Error> {
+    if captures.into.is_none() {
+        return match &captures.by {
+            None => Ok(None),
+            Some(_) => Err(bad_words(
+                alloc,
+                "--by wants --into, which names the folder of the scripts",
+            )?),
+        };
+    }
+    if captures.every.is_some() {
+        return Err(bad_words(
+            alloc,
+            "--into takes no --every: a row of the clock is of no link and no day",
+        )?);
+    }
+    let Some(word) = &captures.by else {
+        return Ok(Some(By::LinkAndDay));
+    };
+    match word.as_str() {
+        "link" => Ok(Some(By::Link)),
+        "day" => Ok(Some(By::Day)),
+        "link,day" => Ok(Some(By::LinkAndDay)),
+        text => {
+            let message = format!(in alloc; "'{text}' is none of link, day and link,day")?;
+            Err(bad_words(alloc, message.as_str())?)
+        }
+    }
 }
 
 /// Whether words of captures stand where no capture is named.

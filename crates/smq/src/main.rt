@@ -18,6 +18,7 @@ mod laws;
 mod live;
 mod progress;
 mod questions;
+mod scripts;
 mod sources;
 mod status;
 mod timed_input;

@@ -69,7 +69,8 @@ fn push_hour(text: &mut String, hour: u32) -> Result<(), AllocError>
     text.push_str("Z")
 }
 
-pub(crate) fn push_day(text: &mut String, day: u32) -> Result<(), AllocError>
+/// Puts a day after the text, by the number of days since 1970.
+pub fn push_day(text: &mut String, day: u32) -> Result<(), AllocError>
     ensures { OnOk result (string_bytes text.new ≡ string_bytes text.old ++ day_text day) }
 {
     push_month(text, month_of(day))?;
