@@ -26,7 +26,7 @@ from lib.loader import load
 README = load("../gate/check-readme")
 # Commands of the system that documents name, with the shell's own words
 SYSTEM = {*"apt-get awk bash cat cd cp done echo editor export find for grep hostname journalctl ln ls make mkdir sed seq sh sleep sort sqlite3 ss systemctl tail head tcpdump tee xargs".split(),
-          *"slurmctld slurmd srun END ./make-days".split()}
+          *"sbatch parallel wc END ./make-days".split()}
 # What is of the repository alone
 OTHERS = re.compile(r"(?<![\w/.-])(?:\.\.?/)*(?:(?:tools/(?!lib/)|crates/|gate/|bench/)[\w-]+|\.\.?/(?:run|try|test)\b)|`rt\b")
 SLIPS = ("see tools/places", "`./run report`", "../../run report", "`rt check`", "crates/smq/out/smq", "`smq nothing`", "smq-nothing", "docs/NOTHING.md",
