@@ -81,7 +81,7 @@ MOMENT is in ms since 1970 or YYYY-MM-DDTHH:MM:SSZ. It has at most 1,000,000 rec
 (total, count, messages, receipts: any number). ROWS are the same, with `ask,NAME` or `ask,report` among them,
 and without a limit; for follow also `ask,count,COLUMN,..`, and `lost,SESSION,DIRECTION,OCTETS` where octets are
 missing. `smq window 15m` writes ROWS again, and withdraws what is older than 15 minutes; `smq follow --window 15m`
-counts the rest alone. A message takes some 2 KB of memory (follow: 5). FORMATS.md among the documents tells all
+counts only the rest. A message takes some 2 KB of memory (follow: 5). FORMATS.md among the documents tells all
 records, the settings, the report and the lines; the tool check-script says what is wrong with a script.
 `--capture FILE` with `--link` reads a packet capture behind the rows of standard input (-: from standard
 input, which has no rows then); smq capture --help tells how.
@@ -142,7 +142,7 @@ clock: look to these yourself.
 
 With --periods a link and a session may stand in many reports, since the tool deal cuts no pair and no group of
 messages and receipts. The counts are the sums. A place of a dealt script isn't that of the whole, so of each list
-its length is written alone, as a line `count,NAME,COUNT` behind the views. Such a sum is a report that --periods
+only its length is written, as a line `count,NAME,COUNT` behind the views. Such a sum is a report that --periods
 adds again, as months to a year.
 
 Status:
