@@ -79,6 +79,13 @@ pub record IsFoundAt (side : Side) (is_end : Bool) (before : Flow) (place number
   pub place_is : place ≡ (stream_of side found).held.place
   pub number_is : MatchOption (slice_get (stream_of side found).held.octets 0) (number ≡ 0) (λ (o : Octet). number ≡ o.packet.number)
 
+-- none is looked for; or none is seen to begin, and what begins none is passed over
+pub record FindsNone (side : Side) (is_end : Bool) (before after : Flow) : Type 0 where
+  pub still : (stream_of side before).is_searching ≡ false → after ≡ before
+  pub searches : (stream_of side before).is_searching ≡ true → (pieces : List Piece) (start : Start) (given : List Octet)
+      → stream.Gives pieces start given (stream_of side before)
+      → stream.Searches is_end pieces start given (stream_of side before) (stream_of side after) false
+
 -- a connection goes on with that PDU: a session of the direction begins with it, and of what follows its octets become rows
 pub record GoesOnAt (side : Side) (is_end has_rows : Bool) (last : ℕ) (before : Flow) (signs : Both) (next place : ℕ) (after : Flow)
     (session : ℕ) : Type 0 where

@@ -2,7 +2,7 @@
 ghost use Rattle.std.specs.Prelude.{◌≡◌, List, IfOk, IfSome, OnOk, Ok, Some, None, false};
 ghost use Rattle.smq_reassembly.specs.Octet.{Octet};
 ghost use Rattle.smq_capture.specs.Flow.{FlowsIn, History, Stays, direction_of, with_direction, with_passed};
-ghost use Rattle.smq_capture.specs.GoingOn.{BeginsWith, FollowsBehind, GoesOn, GoesOnAt, HasOctets, other_of, place_in};
+ghost use Rattle.smq_capture.specs.GoingOn.{BeginsWith, FindsNone, FollowsBehind, GoesOn, GoesOnAt, HasOctets, other_of, place_in};
 ghost use Rattle.smq_capture.specs.Rows.{AreInOrder, AreSettledTo, Row};
 
 use crate::connection::Connection;
@@ -169,6 +169,7 @@ impl Connection {
         ensures none { result ≡ Ok None → (self.new ≡ record self.old { flow = self.new.flow })
             × ((s : History) (written : List Row) → FlowsIn s written side self.old.flow
             → (passed : List Octet) × FlowsIn (with_passed passed s) written side self.new.flow) }
+        ensures idle { result ≡ Ok None → FindsNone side is_end self.old.flow self.new.flow }
         ensures rest { self.new ≡ record self.old {
           flow = self.new.flow;
           last = self.new.last;

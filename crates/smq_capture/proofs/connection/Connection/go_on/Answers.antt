@@ -25,3 +25,9 @@ returns-clause-goes_on g c =
         → (stream_of c.args.side c.args.self.now.flow).is_searching ≡ true
     looks true e = e
     looks false e = let idle = (c.in_ok-found.ensures.idle e).0 in absurd (cc)
+
+pub returns-in_default-clause-idle : goal.returns-in_default-clause-idle
+returns-in_default-clause-idle g c told = record {
+  still = λ e. (c.in_ok-found.ensures.idle e).1;
+  searches = λ is pieces start given gives. rw c.in_default.is at (c.in_ok-found.ensures.searches is pieces start given gives);
+}
