@@ -42,6 +42,7 @@ pub use join::lines::{DecidingReceipt, MessageLine, ReceiptLine, ReceiptStanding
 pub use join::message::{Message, ReceivedReceipt, Response};
 pub use pairing::notes::read_notes;
 pub use pairing::pairs::{SessionForms, pdu_at, place_of};
+pub use pairing::sides::{Side, sides_of};
 pub use pairing::submits::SubmittedMessage;
 pub use pairing::traffic::{
     DecodedSession, SessionReading, SessionView, concatenated, decoded_sessions, read_session,

@@ -18,7 +18,7 @@ use std::collections::BTreeMap;
 
 /// A direction of a session: its PDUs, those of the other direction, and by the index of each PDU that of its partner there.
 #[derive(Drop)]
-pub(crate) struct Side<'a> {
+pub struct Side<'a> {
     pub session: SessionId,
     pub dir: Dir,
     pub pdus: &'a [StoredPdu],
@@ -52,14 +52,14 @@ impl<'a> Side<'a> {
     }
 
     /// The response to the request at an index.
-    pub(crate) fn response(&self, index: usize) -> Option<&'a StoredPdu>
+    pub fn response(&self, index: usize) -> Option<&'a StoredPdu>
         ensures { option_copied result ≡ partner_at self.now.responses.items self.now.other.now index }
     {
         partner(self.responses.as_slice(), self.other, index)
     }
 
     /// The request of the response at an index.
-    pub(crate) fn request(&self, index: usize) -> Option<&'a StoredPdu>
+    pub fn request(&self, index: usize) -> Option<&'a StoredPdu>
         ensures { option_copied result ≡ partner_at self.now.requests.items self.now.other.now index }
     {
         partner(self.requests.as_slice(), self.other, index)
@@ -67,7 +67,7 @@ impl<'a> Side<'a> {
 }
 
 /// Both directions of a session: the client's, then the centre's.
-pub(crate) fn sides_of(
+pub fn sides_of(
     alloc: Global,
     number: SessionId,
     session: &Session,
