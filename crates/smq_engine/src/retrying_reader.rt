@@ -8,13 +8,13 @@ use std::io::{ErrorKind, Read};
 
 /// A reader that tries a read again that was interrupted.
 #[derive(Drop)]
-pub(crate) struct RetryingReader<R> {
+pub struct RetryingReader<R> {
     inner: R,
 }
 
 impl<R: Read> RetryingReader<R> {
     /// That of a reader.
-    pub(crate) fn new(inner: R) -> RetryingReader<R>
+    pub fn new(inner: R) -> RetryingReader<R>
         ensures { result.inner ≡ inner }
     {
         RetryingReader { inner }
