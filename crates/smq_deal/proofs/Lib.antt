@@ -1,0 +1,10 @@
+pub mod Cuts
+pub mod Dealing
+pub mod KeysKept
+pub mod Lines
+pub mod OpenLemmas
+pub mod PairsKept
+pub mod PartPlaces
+pub mod Partners
+pub mod PartsAdd
+pub mod Rows

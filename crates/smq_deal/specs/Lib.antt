@@ -1,0 +1,5 @@
+pub mod Keys
+pub mod Parts
+pub mod Open
+pub mod Known
+pub mod Texts
