@@ -23,7 +23,7 @@ use Rattle.smq_report.specs.declared.pick.Format.{Format}
 use Rattle.smq_report.specs.declared.pick.Format.TheVariants as format
 use Rattle.smq_report.specs.declared.pick.Pick.{Pick}
 use Rattle.smq_report.specs.declared.pick.Pick.TheVariants as pick
-use Rattle.smq_words.specs.Words.{TakesNames, file_rule, flag_rule, format_name, format_names, format_rule, link_rule, name_rule, option_rule, optional_rule, parts_rule, quiet_rule, repeated_rule, settings_rule, strict_rule}
+use Rattle.smq_words.specs.Words.{TakesNames, count_rule, file_rule, flag_rule, folder_rule, format_name, format_names, format_rule, link_rule, name_rule, option_rule, optional_rule, parts_rule, quiet_rule, repeated_rule, settings_rule, strict_rule}
 use Rattle.smq_words.proofs.LevelLemmas.{AllKeep, DefaultsFit, IfHas, Keeps, append_keeps, flag_keeps, flagged, help_keeps, set_keeps, set_once, some_kind}
 
 -- ---- names
@@ -238,6 +238,23 @@ pub parts_keep : (N : Text → Type 0) (rest : List Rule) → AllKeep (Known N) 
 parts_keep N rest keep = (
   set_keeps (Known N) (filled (option_rule (codes "into"))) (λ v h. other_known N (codes "into") v refl refl refl),
   (set_keeps (Known N) (filled parts_rule) (λ v h. other_known N (codes "parts") v refl refl refl), keep),
+)
+
+-- the rules of the scripts that `deal` writes, before others
+abbrev dealing_built : List Rule → List Rule
+dealing_built rest =
+    filled (option_rule (codes "settled")) ∷ filled (option_rule (codes "rest")) ∷ filled count_rule ∷ filled folder_rule ∷ rest
+
+pub dealing_keep : (N : Text → Type 0) (rest : List Rule) → AllKeep (Known N) rest → AllKeep (Known N) (dealing_built rest)
+dealing_keep N rest keep = (
+  set_keeps (Known N) (filled (option_rule (codes "settled"))) (λ v h. other_known N (codes "settled") v refl refl refl),
+  (
+    set_keeps (Known N) (filled (option_rule (codes "rest"))) (λ v h. other_known N (codes "rest") v refl refl refl),
+    (
+      set_keeps (Known N) (filled count_rule) (λ v h. other_known N (codes "count") v refl refl refl),
+      (set_keeps (Known N) (filled folder_rule) (λ v h. other_known N (codes "folder") v refl refl refl), keep),
+    ),
+  ),
 )
 
 -- the length of a window, an option before others

@@ -13,10 +13,10 @@ use Rattle.smq_report.specs.declared.pick.Output.TheVariants as output
 use Rattle.smq_report.specs.declared.pick.Pick.{Pick}
 use Rattle.smq_report.specs.declared.pick.Pick.TheVariants as pick
 use Rattle.smq_words.specs.declared.orders.Task.{Task}
-use Rattle.smq_words.specs.declared.orders.Task.TheVariants.{Add, Capture, Count, Follow, Run, Total, Window}
-use Rattle.smq_words.specs.Words.{Asks, CaptureTexts, CountingTexts, HasCaptures, HasFlag, IsQueried, Say, TakesNames, add_app, capture_app, columns_rule, count_app, counting_in, follow_app, format_names, length_rule, name_rule, named_app, option_rule, optional_rule, options_app, periods_rule, repeated_rule, reports_rule, required_link_rule, settings_app, subcommand_name, values_of, window_app}
+use Rattle.smq_words.specs.declared.orders.Task.TheVariants.{Add, Capture, Count, Deal, Follow, Run, Total, Window}
+use Rattle.smq_words.specs.Words.{Asks, CaptureTexts, CountingTexts, DealingTexts, HasCaptures, HasFlag, IsQueried, Say, TakesNames, add_app, capture_app, columns_rule, count_app, counting_in, deal_app, dealing_in, follow_app, format_names, length_rule, name_rule, named_app, option_rule, optional_rule, options_app, quiet_rule, repeated_rule, reports_rule, required_link_rule, settings_app, settings_rule, subcommand_name, values_of, window_app}
 use Rattle.smq_words.proofs.LevelLemmas.{Fit, IfHas, append_keeps, first_fit, given_fit, level_fit, read_fit, set_keeps, some_kind}
-use Rattle.smq_words.proofs.ArgumentLemmas.{IsFlagText, IsFormatName, IsPickName, Known, Nameless, captures_default, captures_keep, file_built, flag_known, format_keeps, format_known, help_built, help_default, help_keep, is_flag, known_flag_keeps, known_read, live_built, live_keep, name_keeps, none_known, not_given, of_known, optional_keeps, other_known, parts_built, parts_keep, pick_known, reading_default, reading_keep, settings_keeps, window_built, window_keep}
+use Rattle.smq_words.proofs.ArgumentLemmas.{IsFlagText, IsFormatName, IsPickName, Known, Nameless, captures_default, captures_keep, dealing_keep, file_built, flag_known, format_keeps, format_known, help_built, help_default, help_keep, is_flag, known_flag_keeps, known_read, live_built, live_keep, name_keeps, none_known, not_given, of_known, optional_keeps, other_known, parts_built, parts_keep, pick_known, reading_default, reading_keep, settings_keeps, window_built, window_keep}
 
 abbrev pub settings_built : Text → Shape
 settings_built name = built_leaf (record (settings_app name).top { no_binary_name = true })
@@ -42,14 +42,17 @@ count_built = built_leaf (record count_app.top { no_binary_name = true })
 abbrev pub length_built : Shape
 length_built = built_leaf (record window_app.top { no_binary_name = true })
 
+abbrev pub deal_built : Shape
+deal_built = built_leaf (record deal_app.top { no_binary_name = true })
+
 abbrev pub add_built : Shape
 add_built = built_leaf (record add_app.top { no_binary_name = true })
 
 -- words ask for a task
 abbrev pub Asked : Option (Text × List Row) → Type 0
 Asked entered =
-    (task : Task) × (path : Option Text) × (window : Option Text) × (counting : CountingTexts) × (captures : CaptureTexts)
-    × Asks entered task path window counting captures
+    (task : Task) × (path : Option Text) × (window : Option Text) × (counting : CountingTexts) × (dealing : DealingTexts)
+    × (captures : CaptureTexts) × Asks entered task path window counting dealing captures
 
 -- what the arguments say of a flag
 flag_said : (N : Text → Type 0) (id : Text) → is_flag id ≡ true → (rows : List Row) → Fit (Known N) rows → (given : Bool) × HasFlag id rows given
@@ -96,8 +99,18 @@ task_asked N task rows fit say =
       first_of (codes "settings") rows,
       first_of (codes "window") rows,
       counting_in rows task,
+      dealing_in rows task,
       said.0,
-      record { rows = rows; enters = refl; say = say; has_path = refl; has_window = refl; has_counting = refl; has_captures = said.1 },
+      record {
+        rows = rows;
+        enters = refl;
+        say = say;
+        has_path = refl;
+        has_window = refl;
+        has_counting = refl;
+        has_dealing = refl;
+        has_captures = said.1;
+      },
     )
 
 -- of a subcommand with no format and no name
@@ -244,6 +257,15 @@ window_asked words clean =
     ) (tt, help_default Nameless) words clean in
     let given = given_fit (Known Nameless) (codes "window") rows level.0 (is_required (is_given (codes "window") rows) level.1) in
     task_asked Nameless Window rows level.0 (given.0, given.1)
+
+pub deal_asked : (words : List Text) → level_fault deal_built [] nothing_held words false [] ≡ [] → Asked (Some (rows_at deal_built words))
+deal_asked words clean =
+    let s = deal_built in
+    let fit = (level_fit (Known Nameless) s
+    (dealing_keep Nameless (filled settings_rule ∷ filled quiet_rule ∷ help_built)
+    (settings_keeps Nameless, (known_flag_keeps Nameless (codes "quiet") refl refl, help_keep Nameless)))
+    (tt, (tt, (tt, (tt, (tt, ((not_given Nameless (codes "quiet") refl refl, tt), help_default Nameless)))))) words clean).0 in
+    task_asked Nameless Deal (rows_after s.rules [] words) fit tt
 
 pub add_asked : (words : List Text) → level_fault add_built [] nothing_held words false [] ≡ [] → Asked (Some (rows_at add_built words))
 add_asked words clean =

@@ -20,12 +20,12 @@ use Rattle.smq_report.specs.declared.pick.Pick.TheVariants as pick
 use Rattle.smq_report.specs.declared.pick.Query.{Query}
 use Rattle.smq_words.specs.declared.orders.Order.{Order}
 use Rattle.smq_words.specs.declared.orders.Task.{Task}
-use Rattle.smq_words.specs.declared.orders.Task.TheVariants.{Add, Capture, Check, Count, Follow, Run, Total, Window}
-use Rattle.smq_words.specs.Words.{Asks, CaptureTexts, CountingTexts, HasCaptures, HasFlag, HasFormat, IsAsked, Say, TakesNames, counting_in, format_names, no_counting, program, run_name, subcommand_name, texts_of_captures, texts_of_counting}
-use Rattle.smq_words.specs.within.Tasks.{counting_named, task_named}
+use Rattle.smq_words.specs.declared.orders.Task.TheVariants.{Add, Capture, Check, Count, Deal, Follow, Run, Total, Window}
+use Rattle.smq_words.specs.Words.{Asks, CaptureTexts, CountingTexts, DealingTexts, HasCaptures, HasFlag, HasFormat, IsAsked, Say, TakesNames, counting_in, dealing_in, format_names, no_counting, no_dealing, program, run_name, subcommand_name, texts_of_captures, texts_of_counting, texts_of_dealing}
+use Rattle.smq_words.specs.within.Tasks.{counting_named, dealing_named, task_named}
 use Rattle.smq_words.proofs.LevelLemmas.{neither, some_kind}
 use Rattle.smq_words.proofs.ArgumentLemmas.{apart}
-use Rattle.smq_words.proofs.EnteredLemmas.{Asked, add_asked, add_built, capture_asked, capture_built, count_asked, count_built, follow_asked, follow_built, length_built, options_built, query_asked, query_built, report_asked, settings_asked, settings_built, total_asked, total_built, window_asked}
+use Rattle.smq_words.proofs.EnteredLemmas.{Asked, add_asked, add_built, capture_asked, capture_built, count_asked, count_built, deal_asked, deal_built, follow_asked, follow_built, length_built, options_built, query_asked, query_built, report_asked, settings_asked, settings_built, total_asked, total_built, window_asked}
 
 -- ---- the subcommand: it is no `help`, which is refused with help
 
@@ -126,8 +126,8 @@ walk_stops names formats ns (word ∷ words) w clean stops =
 -- ---- the words of the program
 
 -- the subcommand that a word names, by a test of each
-abbrev named_by : ValueParser → ValueParser → Bool → Bool → Bool → Bool → Bool → Bool → Bool → Bool → Bool → Bool → Bool → Bool → Option Shape
-named_by names formats capture report query check follow total count messages receipts window add help =
+abbrev named_by : ValueParser → ValueParser → Bool → Bool → Bool → Bool → Bool → Bool → Bool → Bool → Bool → Bool → Bool → Bool → Bool → Option Shape
+named_by names formats capture report query check follow total count messages receipts window deal add help =
     cond (capture || false) (Some capture_built)
     (cond (report || false) (Some (options_built (codes "report") formats))
     (cond (query || false) (Some (query_built names formats))
@@ -138,7 +138,8 @@ named_by names formats capture report query check follow total count messages re
     (cond (messages || false) (Some (settings_built (codes "messages")))
     (cond (receipts || false) (Some (settings_built (codes "receipts")))
     (cond (window || false) (Some length_built)
-    (cond (add || false) (Some add_built) (cond (help || false) (Some (built_leaf help_shape)) None)))))))))))
+    (cond (deal || false) (Some deal_built)
+    (cond (add || false) (Some add_built) (cond (help || false) (Some (built_leaf help_shape)) None))))))))))))
 
 -- what a subcommand makes of the words after its name
 abbrev entered_at : List Text → Option Shape → Option (Text × List Row)
@@ -151,35 +152,37 @@ missing : (names formats : ValueParser) (rows : List Row) → check_fault (top_b
 missing names formats rows clean = some_kind {k = kind.MissingSubcommand} {ks = []} clean
 
 by_name : (names formats : ValueParser) → TakesNames pick_names names → TakesNames format_names formats
-    → (words : List Text) (rows : List Row) (capture report query check follow total count messages receipts window add help : Bool)
-    → help ≡ false → below_fault words (named_by names formats capture report query check follow total count messages receipts window add help) ≡ []
+    → (words : List Text) (rows : List Row) (capture report query check follow total count messages receipts window deal add help : Bool)
+    → help ≡ false → below_fault words (named_by names formats capture report query check follow total count messages receipts window deal add help) ≡ []
     → check_fault (top_built names formats) rows
-    (is_some (entered_at words (named_by names formats capture report query check follow total count messages receipts window add help))) ≡ []
-    → Asked (entered_at words (named_by names formats capture report query check follow total count messages receipts window add help))
-by_name names formats takes_names takes_formats words rows true report query check follow total count messages receipts window add help h clean checks =
+    (is_some (entered_at words (named_by names formats capture report query check follow total count messages receipts window deal add help))) ≡ []
+    → Asked (entered_at words (named_by names formats capture report query check follow total count messages receipts window deal add help))
+by_name names formats takes_names takes_formats words rows true report query check follow total count messages receipts window deal add help h clean checks =
     capture_asked words clean
-by_name names formats takes_names takes_formats words rows false true query check follow total count messages receipts window add help h clean checks =
+by_name names formats takes_names takes_formats words rows false true query check follow total count messages receipts window deal add help h clean checks =
     report_asked formats takes_formats words clean
-by_name names formats takes_names takes_formats words rows false false true check follow total count messages receipts window add help h clean checks =
+by_name names formats takes_names takes_formats words rows false false true check follow total count messages receipts window deal add help h clean checks =
     query_asked names formats takes_names takes_formats words clean
-by_name names formats takes_names takes_formats words rows false false false true follow total count messages receipts window add help h clean checks =
+by_name names formats takes_names takes_formats words rows false false false true follow total count messages receipts window deal add help h clean checks =
     settings_asked Check (λ rows. tt) words clean
-by_name names formats takes_names takes_formats words rows false false false false true total count messages receipts window add help h clean checks =
+by_name names formats takes_names takes_formats words rows false false false false true total count messages receipts window deal add help h clean checks =
     follow_asked formats takes_formats words clean
-by_name names formats takes_names takes_formats words rows false false false false false true count messages receipts window add help h clean checks =
+by_name names formats takes_names takes_formats words rows false false false false false true count messages receipts window deal add help h clean checks =
     total_asked names formats takes_names takes_formats words clean
-by_name names formats takes_names takes_formats words rows false false false false false false true messages receipts window add help h clean checks =
+by_name names formats takes_names takes_formats words rows false false false false false false true messages receipts window deal add help h clean checks =
     count_asked words clean
-by_name names formats takes_names takes_formats words rows false false false false false false false true receipts window add help h clean checks =
+by_name names formats takes_names takes_formats words rows false false false false false false false true receipts window deal add help h clean checks =
     settings_asked (Total output.Messages) (λ rows. tt) words clean
-by_name names formats takes_names takes_formats words rows false false false false false false false false true window add help h clean checks =
+by_name names formats takes_names takes_formats words rows false false false false false false false false true window deal add help h clean checks =
     settings_asked (Total output.Receipts) (λ rows. tt) words clean
-by_name names formats takes_names takes_formats words rows false false false false false false false false false true add help h clean checks =
+by_name names formats takes_names takes_formats words rows false false false false false false false false false true deal add help h clean checks =
     window_asked words clean
-by_name names formats takes_names takes_formats words rows false false false false false false false false false false true help h clean checks =
+by_name names formats takes_names takes_formats words rows false false false false false false false false false false true add help h clean checks =
+    deal_asked words clean
+by_name names formats takes_names takes_formats words rows false false false false false false false false false false false true help h clean checks =
     add_asked words clean
-by_name names formats takes_names takes_formats words rows false false false false false false false false false false false true h clean checks = cc
-by_name names formats takes_names takes_formats words rows false false false false false false false false false false false false h clean checks =
+by_name names formats takes_names takes_formats words rows false false false false false false false false false false false false true h clean checks = cc
+by_name names formats takes_names takes_formats words rows false false false false false false false false false false false false false h clean checks =
     absurd (missing names formats rows checks)
 
 by_stop : (names formats : ValueParser) → TakesNames pick_names names → TakesNames format_names formats
@@ -192,7 +195,7 @@ by_stop names formats takes_names takes_formats rows (Some p) no_help clean chec
     (bytes_eq (codes "report") p.0) (bytes_eq (codes "query") p.0)
     (bytes_eq (codes "check") p.0) (bytes_eq (codes "follow") p.0) (bytes_eq (codes "total") p.0) (bytes_eq (codes "count") p.0)
     (bytes_eq (codes "messages") p.0)
-    (bytes_eq (codes "receipts") p.0) (bytes_eq (codes "window") p.0) (bytes_eq (codes "add") p.0) (bytes_eq (codes "help") p.0)
+    (bytes_eq (codes "receipts") p.0) (bytes_eq (codes "window") p.0) (bytes_eq (codes "deal") p.0) (bytes_eq (codes "add") p.0) (bytes_eq (codes "help") p.0)
     (not_named (bytes_eq (codes "help") p.0) refl) clean checks
   where
     not_named : (b : Bool) → bytes_eq (codes "help") p.0 ≡ b → b ≡ false
@@ -240,6 +243,7 @@ task_is (Total (output.Report asked)) rows query of_periods picked formed flagge
 task_is (Total output.Messages) rows query of_periods picked formed flagged say = refl
 task_is (Total output.Receipts) rows query of_periods picked formed flagged say = refl
 task_is Count rows query of_periods picked formed flagged say = refl
+task_is Deal rows query of_periods picked formed flagged say = refl
 task_is (Add given) rows query of_periods picked formed flagged say = ap (λ p. Add p) (flagged given say.0)
 task_is Capture rows query of_periods picked formed flagged say = refl
 task_is Window rows query of_periods picked formed flagged say = refl
@@ -258,9 +262,29 @@ counting_is (Total (output.Report asked)) rows = refl
 counting_is (Total output.Messages) rows = refl
 counting_is (Total output.Receipts) rows = refl
 counting_is Count rows = refl
+counting_is Deal rows = refl
 counting_is (Add of_periods) rows = refl
 counting_is Capture rows = refl
 counting_is Window rows = refl
+
+-- what the name of a task's subcommand and its arguments say of dealing
+dealing_is : (task : Task) (rows : List Row) → dealing_named (subcommand_name task) rows ≡ dealing_in rows task
+dealing_is (Run query) rows = of_pick query.pick
+  where
+    of_pick : (x : Pick) → dealing_named (run_name x) rows ≡ no_dealing
+    of_pick pick.All = refl
+    of_pick (pick.View view) = refl
+    of_pick (pick.List list) = refl
+dealing_is Check rows = refl
+dealing_is (Follow f) rows = refl
+dealing_is (Total (output.Report asked)) rows = refl
+dealing_is (Total output.Messages) rows = refl
+dealing_is (Total output.Receipts) rows = refl
+dealing_is Count rows = refl
+dealing_is Deal rows = refl
+dealing_is (Add of_periods) rows = refl
+dealing_is Capture rows = refl
+dealing_is Window rows = refl
 
 abbrev rows_in : Option (Text × List Row) → List Row
 rows_in None = []
@@ -288,37 +312,50 @@ pub asked_task : (name : Text) (rows : List Row) (query : Query) (of_periods : B
     → ((x : Pick) → first_of (codes "NAME") rows ≡ pick_name x → query.pick ≡ x)
     → ((f : Format) → HasFormat rows f → query.format ≡ f)
     → ((given : Bool) → HasFlag (codes "periods") rows given → of_periods ≡ given)
-    → (task : Task) (path window : Option Text) (counting : CountingTexts) (captures : CaptureTexts)
-    → Asks (Some (name, rows)) task path window counting captures → task_named name query of_periods ≡ task
-asked_task name rows query of_periods picked formed flagged task path window counting captures asks =
+    → (task : Task) (path window : Option Text) (counting : CountingTexts) (dealing : DealingTexts)
+    (captures : CaptureTexts) → Asks (Some (name, rows)) task path window counting dealing captures → task_named name query of_periods ≡ task
+asked_task name rows query of_periods picked formed flagged task path window counting dealing captures asks =
     let here : rows ≡ asks.rows = ap rows_in asks.enters in
     ap (λ n. task_named n query of_periods) (ap name_in asks.enters)
     ∙ task_is task rows query of_periods picked formed flagged (subst (λ rs. Say rs task) (sym here) asks.say)
 
 -- what they say of captures
 pub asked_captures : (name : Text) (rows : List Row) (task : Task) (path window : Option Text) (counting : CountingTexts)
-    (captures : CaptureTexts) → Asks (Some (name, rows)) task path window counting captures → HasCaptures rows captures
-asked_captures name rows task path window counting captures asks =
+    (dealing : DealingTexts) (captures : CaptureTexts) → Asks (Some (name, rows)) task path window counting dealing captures
+    → HasCaptures rows captures
+asked_captures name rows task path window counting dealing captures asks =
     subst (λ rs. HasCaptures rs captures) (sym (ap rows_in asks.enters)) asks.has_captures
 
 -- what they say of counting
-asked_counting : (name : Text) (rows : List Row) (task : Task) (path window : Option Text) (counting : CountingTexts) (captures : CaptureTexts)
-    → Asks (Some (name, rows)) task path window counting captures → counting_named name rows ≡ counting_in rows task
-asked_counting name rows task path window counting captures asks = ap (λ n. counting_named n rows) (ap name_in asks.enters) ∙ counting_is task rows
+asked_counting : (name : Text) (rows : List Row) (task : Task) (path window : Option Text) (counting : CountingTexts) (dealing : DealingTexts)
+    (captures : CaptureTexts) → Asks (Some (name, rows)) task path window counting dealing captures
+    → counting_named name rows ≡ counting_in rows task
+asked_counting name rows task path window counting dealing captures asks =
+    ap (λ n. counting_named n rows) (ap name_in asks.enters) ∙ counting_is task rows
 
--- an order with that task, the path of `--settings`, the length of a window, what the arguments say of counting, and those captures is asked for
+-- what they say of dealing
+asked_dealing : (name : Text) (rows : List Row) (task : Task) (path window : Option Text) (counting : CountingTexts) (dealing : DealingTexts)
+    (captures : CaptureTexts) → Asks (Some (name, rows)) task path window counting dealing captures
+    → dealing_named name rows ≡ dealing_in rows task
+asked_dealing name rows task path window counting dealing captures asks =
+    ap (λ n. dealing_named n rows) (ap name_in asks.enters) ∙ dealing_is task rows
+
+-- an order with that task, the path of `--settings`, the length of a window, what the arguments say of counting and dealing, and those captures is
+-- asked for
 pub order_asked : (name : Text) (rows : List Row) (task : Task) (path window : Option Text) (counting : CountingTexts)
-    (captures : CaptureTexts) → Asks (Some (name, rows)) task path window counting captures → (order : Order) → order.task ≡ task
+    (dealing : DealingTexts) (captures : CaptureTexts) → Asks (Some (name, rows)) task path window counting dealing captures → (order : Order)
+    → order.task ≡ task
     → option_map string_bytes order.settings ≡ first_of (codes "settings") rows
     → option_map string_bytes order.window ≡ first_of (codes "window") rows
-    → texts_of_counting order.counting ≡ counting_named name rows → HasCaptures rows (texts_of_captures order.captures)
-    → IsAsked (Some (name, rows)) order
-order_asked name rows task path window counting captures asks order same_task same_path same_window same_counting has = record {
+    → texts_of_counting order.counting ≡ counting_named name rows → texts_of_dealing order.dealing ≡ dealing_named name rows
+    → HasCaptures rows (texts_of_captures order.captures) → IsAsked (Some (name, rows)) order
+order_asked name rows task path window counting dealing captures asks order same_task same_path same_window same_counting same_dealing has = record {
   rows = rows;
   enters = ap (λ (n : Text). Some (n, rows)) (ap name_in asks.enters ∙ ap subcommand_name (sym same_task));
   say = subst (λ t. Say rows t) (sym same_task) (subst (λ rs. Say rs task) (sym (ap rows_in asks.enters)) asks.say);
   has_path = sym same_path;
   has_window = sym same_window;
-  has_counting = ap (counting_in rows) same_task ∙ sym (same_counting ∙ asked_counting name rows task path window counting captures asks);
+  has_counting = ap (counting_in rows) same_task ∙ sym (same_counting ∙ asked_counting name rows task path window counting dealing captures asks);
+  has_dealing = ap (dealing_in rows) same_task ∙ sym (same_dealing ∙ asked_dealing name rows task path window counting dealing captures asks);
   has_captures = has;
 }

@@ -2,7 +2,7 @@
 use Rattle.std.specs.Prelude.{◌≡◌, [], ◌∷◌, List, codes, false, true, Option, Some, None}
 use Rattle.clap.specs.Words.{Kinds, Text, fault_of, subcommand_of}
 use Rattle.clap.specs.declared.builder.value_parser.ValueParser.{ValueParser}
-use Rattle.clap.specs.declared.error.kind.ErrorKind.TheVariants.{ArgumentConflict, MissingRequiredArgument, UnknownArgument}
+use Rattle.clap.specs.declared.error.kind.ErrorKind.TheVariants.{ArgumentConflict, InvalidValue, MissingRequiredArgument, UnknownArgument}
 use Rattle.smq_report.specs.declared.pick.Format.{Format}
 use Rattle.smq_report.specs.declared.pick.Format.TheVariants as format
 use Rattle.smq_report.specs.declared.pick.Pick.{Pick}
@@ -13,8 +13,8 @@ use Rattle.smq_report.specs.declared.pick.Output.TheVariants.{Messages, Receipts
 use Rattle.smq_report.specs.declared.pick.Query.{Query}
 use Rattle.smq_report.specs.Picks.{pick_names}
 use Rattle.smq_words.specs.declared.orders.Task.{Task}
-use Rattle.smq_words.specs.declared.orders.Task.TheVariants.{Add, Capture, Check, Count, Follow, Run, Total, Window}
-use Rattle.smq_words.specs.Words.{Asks, CaptureTexts, CountingTexts, format_names, format_rule, link_rule, no_counting, program, settings_rule, subcommand_name, version_text}
+use Rattle.smq_words.specs.declared.orders.Task.TheVariants.{Add, Capture, Check, Count, Deal, Follow, Run, Total, Window}
+use Rattle.smq_words.specs.Words.{Asks, CaptureTexts, CountingTexts, DealingTexts, format_names, format_rule, link_rule, no_counting, no_dealing, program, settings_rule, subcommand_name, version_text}
 
 -- what is asked of a report, and in which format
 abbrev pub of_query : Pick → Format → Query
@@ -55,28 +55,32 @@ pub record KnowsWords : Type 0 where
   pub settings_option : settings_rule.long ≡ Some (codes "settings")
   pub link_option : link_rule.long ≡ Some (codes "link")
   pub version : version_text ≡ codes "0.23.0"
-  pub plain : Asks (Some (codes "report", [])) (Run (of_query pick.All format.Csv)) None None no_counting no_captures
+  pub plain : Asks (Some (codes "report", [])) (Run (of_query pick.All format.Csv)) None None no_counting no_dealing no_captures
 
 -- the fault that `clap` finds in words, whatever names and formats its parsers take
 abbrev pub HasFault : List Text → Kinds → Type 0
 HasFault words fault = (names formats : ValueParser) → fault_of (program names formats) words ≡ fault
 
--- the task, the path of settings, the window's length, what is counted by, and the captures for which words ask
-abbrev pub AskAll : List Text → Task → Option Text → Option Text → CountingTexts → CaptureTexts → Type 0
-AskAll words task path window counting captures =
-    (names formats : ValueParser) → Asks (subcommand_of (program names formats) words) task path window counting captures
+-- the task, the path of settings, the window's length, what is counted by, what is dealt, and the captures for which words ask
+abbrev pub AskAll : List Text → Task → Option Text → Option Text → CountingTexts → DealingTexts → CaptureTexts → Type 0
+AskAll words task path window counting dealing captures =
+    (names formats : ValueParser) → Asks (subcommand_of (program names formats) words) task path window counting dealing captures
 
 -- they ask for counts
 abbrev pub AskCount : List Text → Option Text → CountingTexts → CaptureTexts → Type 0
-AskCount words path counting captures = AskAll words Count path None counting captures
+AskCount words path counting captures = AskAll words Count path None counting no_dealing captures
+
+-- they ask for scripts that are dealt
+abbrev pub AskDeal : List Text → Option Text → DealingTexts → CaptureTexts → Type 0
+AskDeal words path dealing captures = AskAll words Deal path None no_counting dealing captures
 
 -- they ask for a window of this length, and neither for settings nor for captures
 abbrev pub AskWithin : List Text → Task → Text → Type 0
-AskWithin words task length = AskAll words task None (Some length) no_counting no_captures
+AskWithin words task length = AskAll words task None (Some length) no_counting no_dealing no_captures
 
--- they ask for no window, and nothing is counted by
+-- they ask for no window, nothing is counted by, and nothing is dealt
 abbrev pub AskWith : List Text → Task → Option Text → CaptureTexts → Type 0
-AskWith words task path captures = AskAll words task path None no_counting captures
+AskWith words task path captures = AskAll words task path None no_counting no_dealing captures
 
 -- the same where they ask for no captures, either
 abbrev pub AskFor : List Text → Task → Option Text → Type 0
@@ -206,6 +210,37 @@ pub record KnowsWindow : Type 0 where
   pub settings : HasFault (codes "window" ∷ codes "15m" ∷ codes "--settings" ∷ codes "p" ∷ []) (UnknownArgument ∷ [])
   pub quiet : HasFault (codes "window" ∷ codes "15m" ∷ codes "--quiet" ∷ []) (UnknownArgument ∷ [])
   pub check : HasFault (codes "check" ∷ codes "--window" ∷ codes "5m" ∷ []) (UnknownArgument ∷ [])
+
+-- the scripts of what is settled and of the rest
+abbrev pub dealt_by_period : Text → Text → DealingTexts
+dealt_by_period settled rest = record no_dealing { settled = Some settled; rest = Some rest }
+
+-- so many scripts in a folder
+abbrev pub dealt_by_key : Text → Text → DealingTexts
+dealt_by_key parts into = record no_dealing { parts = Some parts; into = Some into }
+
+-- words of `deal`: it takes what is settled and the rest, parts and their folder, a path of settings and whether nothing is told meanwhile, each
+-- once at the most, and neither a name nor captures; `total` takes nothing that is settled, and `capture` no parts
+pub record KnowsDeal : Type 0 where
+  pub periods : HasFault (codes "deal" ∷ codes "--settled" ∷ codes "d" ∷ codes "--rest" ∷ codes "c" ∷ []) []
+  pub periods_asked : AskDeal (codes "deal" ∷ codes "--settled" ∷ codes "d" ∷ codes "--rest" ∷ codes "c" ∷ []) None
+      (dealt_by_period (codes "d") (codes "c")) no_captures
+  pub parts : HasFault (codes "deal" ∷ codes "--parts" ∷ codes "4" ∷ codes "--into" ∷ codes "f" ∷ []) []
+  pub parts_asked : AskDeal (codes "deal" ∷ codes "--parts" ∷ codes "4" ∷ codes "--into" ∷ codes "f" ∷ []) None
+      (dealt_by_key (codes "4") (codes "f")) no_captures
+  pub settings : AskDeal (codes "deal" ∷ codes "--settings" ∷ codes "p" ∷ codes "--rest=c" ∷ codes "--settled=d" ∷ []) (Some (codes "p"))
+      (dealt_by_period (codes "d") (codes "c")) no_captures
+  pub quiet : AskDeal (codes "deal" ∷ codes "--into" ∷ codes "f" ∷ codes "--quiet" ∷ codes "--parts=4" ∷ []) None
+      (dealt_by_key (codes "4") (codes "f")) (record no_captures { is_quiet = true })
+  pub alone : HasFault (codes "deal" ∷ []) []
+  pub alone_asked : AskDeal (codes "deal" ∷ []) None no_dealing no_captures
+  pub no_value : HasFault (codes "deal" ∷ codes "--parts" ∷ []) (InvalidValue ∷ [])
+  pub settled_twice : HasFault (codes "deal" ∷ codes "--settled" ∷ codes "d" ∷ codes "--settled" ∷ codes "e" ∷ []) (ArgumentConflict ∷ [])
+  pub parts_twice : HasFault (codes "deal" ∷ codes "--parts" ∷ codes "4" ∷ codes "--parts" ∷ codes "5" ∷ []) (ArgumentConflict ∷ [])
+  pub name : HasFault (codes "deal" ∷ codes "link" ∷ []) (UnknownArgument ∷ [])
+  pub captures : HasFault (codes "deal" ∷ codes "--capture" ∷ codes "f" ∷ []) (UnknownArgument ∷ [])
+  pub total : HasFault (codes "total" ∷ codes "--settled" ∷ codes "d" ∷ []) (UnknownArgument ∷ [])
+  pub capture : HasFault (codes "capture" ∷ codes "--link" ∷ codes "1=1" ∷ codes "--parts" ∷ codes "4" ∷ []) (UnknownArgument ∷ [])
 
 -- words of `add`: it takes `--periods` and one report or more, and no settings
 pub record KnowsAdd : Type 0 where

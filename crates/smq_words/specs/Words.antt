@@ -20,9 +20,10 @@ use Rattle.smq_report.specs.declared.pick.Pick.TheVariants as pick
 use Rattle.smq_report.specs.declared.pick.Query.{Query}
 use Rattle.smq_words.specs.declared.orders.Captures.{Captures}
 use Rattle.smq_words.specs.declared.orders.Counting.{Counting}
+use Rattle.smq_words.specs.declared.orders.Dealing.{Dealing}
 use Rattle.smq_words.specs.declared.orders.Order.{Order}
 use Rattle.smq_words.specs.declared.orders.Task.{Task}
-use Rattle.smq_words.specs.declared.orders.Task.TheVariants.{Add, Capture, Check, Count, Follow, Run, Total, Window}
+use Rattle.smq_words.specs.declared.orders.Task.TheVariants.{Add, Capture, Check, Count, Deal, Follow, Run, Total, Window}
 
 -- ---- the subcommands
 
@@ -45,6 +46,7 @@ subcommand_name Check = codes "check"
 subcommand_name (Follow format) = codes "follow"
 subcommand_name (Total asked) = total_name asked
 subcommand_name Count = codes "count"
+subcommand_name Deal = codes "deal"
 subcommand_name (Add of_periods) = codes "add"
 subcommand_name Capture = codes "capture"
 subcommand_name Window = codes "window"
@@ -136,6 +138,14 @@ parts_rule = record (new_rule (codes "parts")) { long = Some (codes "by"); actio
 abbrev pub file_rule : Rule
 file_rule = record (new_rule (codes "FILE")) { action = Some Append }
 
+-- `--parts`, with one value, any text; its id is `count`
+abbrev pub count_rule : Rule
+count_rule = record (option_rule (codes "count")) { long = Some (codes "parts") }
+
+-- `--into` of `deal`, with one value, any text; its id is `folder`
+abbrev pub folder_rule : Rule
+folder_rule = record (option_rule (codes "folder")) { long = Some (codes "into") }
+
 -- `--periods`, a flag
 abbrev pub periods_rule : Rule
 periods_rule = flag_rule (codes "periods")
@@ -172,6 +182,10 @@ live_rules = option_rule (codes "every") ∷ repeated_rule (codes "ask") ∷ []
 -- to which scripts rows go
 abbrev pub parts_rules : List Rule
 parts_rules = option_rule (codes "into") ∷ parts_rule ∷ []
+
+-- the scripts that `deal` writes
+abbrev pub dealing_rules : List Rule
+dealing_rules = option_rule (codes "settled") ∷ option_rule (codes "rest") ∷ count_rule ∷ folder_rule ∷ []
 
 -- a subcommand with `--settings` and the options of captures, as `check`, `messages` and `receipts` are
 abbrev pub settings_app : Text → App
@@ -211,6 +225,10 @@ capture_app =
 abbrev pub window_app : App
 window_app = with_rule (new_app (codes "window")) length_rule
 
+-- `deal`: the scripts that it writes, `--settings`, and whether nothing is told meanwhile
+abbrev pub deal_app : App
+deal_app = with_rule (with_rule (with_rules (new_app (codes "deal")) dealing_rules) settings_rule) quiet_rule
+
 -- `add`: whether its reports are of periods, and the reports
 abbrev pub add_app : App
 add_app = with_rule (with_rule (new_app (codes "add")) periods_rule) reports_rule
@@ -241,8 +259,9 @@ with_any_length names formats app =
     (with_subcommand
     (with_subcommand
     (with_subcommand
+    (with_subcommand
     (with_subcommand (with_subcommand app (named_app (codes "total") (optional_rule names) formats).top) count_app.top)
-    (settings_app (codes "messages")).top) (settings_app (codes "receipts")).top) window_app.top) add_app.top
+    (settings_app (codes "messages")).top) (settings_app (codes "receipts")).top) window_app.top) deal_app.top) add_app.top
 
 -- the program, with all its subcommands
 abbrev pub program : ValueParser → ValueParser → App
@@ -284,6 +303,7 @@ Say rows (Total (output.Report query)) = IsQueried rows query
 Say rows (Total output.Messages) = ⊤
 Say rows (Total output.Receipts) = ⊤
 Say rows Count = (columns : Text) × (first_of (codes "by") rows ≡ Some columns)
+Say rows Deal = ⊤
 Say rows (Add of_periods) =
     HasFlag (codes "periods") rows of_periods × ((report : Text) × (first_of (codes "FILE") rows ≡ Some report))
 Say rows Capture = ⊤
@@ -305,6 +325,26 @@ texts_of_counting counting = record {
   columns = option_map string_bytes counting.columns;
   conditions = map string_bytes counting.conditions.items;
   zone = option_map string_bytes counting.zone;
+}
+
+-- what `deal` writes, as texts
+pub record DealingTexts : Type 0 where
+  pub settled : Option Text
+  pub rest : Option Text
+  pub parts : Option Text
+  pub into : Option Text
+
+-- what the other subcommands write: nothing
+abbrev pub no_dealing : DealingTexts
+no_dealing = record { settled = None; rest = None; parts = None; into = None }
+
+-- the texts of what an order deals
+abbrev pub texts_of_dealing : Dealing → DealingTexts
+texts_of_dealing dealing = record {
+  settled = option_map string_bytes dealing.settled;
+  rest = option_map string_bytes dealing.rest;
+  parts = option_map string_bytes dealing.parts;
+  into = option_map string_bytes dealing.into;
 }
 
 -- the words of captures, as texts
@@ -351,6 +391,17 @@ counting_in rows Count = record {
 }
 counting_in rows _ = no_counting
 
+-- what the arguments of a task's subcommand say of dealing: those of `deal` the values of `--settled`, `--rest`, `--parts` and `--into`, all
+-- others nothing
+abbrev pub dealing_in : List Row → Task → DealingTexts
+dealing_in rows Deal = record {
+  settled = first_of (codes "settled") rows;
+  rest = first_of (codes "rest") rows;
+  parts = first_of (codes "count") rows;
+  into = first_of (codes "folder") rows;
+}
+dealing_in rows _ = no_dealing
+
 -- What the arguments of a subcommand say of captures: the paths are those of FILE, which `capture` and `add` have, or of `--capture`, which the
 -- others have; each of the rest is what its option says.
 pub record HasCaptures (rows : List Row) (texts : CaptureTexts) : Type 0 where
@@ -366,24 +417,25 @@ pub record HasCaptures (rows : List Row) (texts : CaptureTexts) : Type 0 where
   pub strict : HasFlag (codes "strict") rows texts.is_strict
   pub quiet : HasFlag (codes "quiet") rows texts.is_quiet
 
--- The matches of the subcommand that words enter ask for a task, a path, a window's length, what is counted by, and captures: the subcommand
--- is the task's, its arguments ask for what the task says, the path is that of `--settings`, the length that of LENGTH, which `window` has, or
--- of `--window`, and the rest is what the arguments say of it.
+-- The matches of the subcommand that words enter ask for a task, a path, a window's length, what is counted by, what is dealt, and captures: the
+-- subcommand is the task's, its arguments ask for what the task says, the path is that of `--settings`, the length that of LENGTH, which
+-- `window` has, or of `--window`, and the rest is what the arguments say of it.
 pub record Asks (entered : Option (Text × List Row)) (task : Task) (path window : Option Text) (counting : CountingTexts)
-    (captures : CaptureTexts) : Type 0 where
+    (dealing : DealingTexts) (captures : CaptureTexts) : Type 0 where
   pub rows : List Row
   pub enters : entered ≡ Some (subcommand_name task, rows)
   pub say : Say rows task
   pub has_path : first_of (codes "settings") rows ≡ path
   pub has_window : first_of (codes "window") rows ≡ window
   pub has_counting : counting_in rows task ≡ counting
+  pub has_dealing : dealing_in rows task ≡ dealing
   pub has_captures : HasCaptures rows captures
 
 -- an order is one for which the matches of the subcommand ask
 abbrev pub IsAsked : Option (Text × List Row) → Order → Type 0
 IsAsked entered order =
     Asks entered order.task (option_map string_bytes order.settings) (option_map string_bytes order.window) (texts_of_counting order.counting)
-    (texts_of_captures order.captures)
+    (texts_of_dealing order.dealing) (texts_of_captures order.captures)
 
 -- an order is the one for which `clap`'s matches of the words ask
 abbrev pub HasOrder : List Text → Order → Type 0

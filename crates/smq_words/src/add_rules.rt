@@ -9,7 +9,7 @@ pub fn periods_flag<'a>(alloc: Global) -> Arg<'a>
 {
     Arg::new(alloc, "periods")
         .long("periods")
-        .help("They are of what the tool deal wrote: a link may stand in many")
+        .help("They are of what deal wrote: a link may stand in many")
         .action(ArgAction::SetTrue)
 }
 

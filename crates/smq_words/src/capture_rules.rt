@@ -105,7 +105,7 @@ fn strict_flag<'a>(alloc: Global) -> Arg<'a>
         .action(ArgAction::SetTrue)
 }
 
-fn quiet_flag<'a>(alloc: Global) -> Arg<'a>
+pub fn quiet_flag<'a>(alloc: Global) -> Arg<'a>
     ensures { IsArgument quiet_rule result }
 {
     Arg::new(alloc, "quiet")

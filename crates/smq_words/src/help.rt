@@ -7,7 +7,7 @@ pub const ABOUT: &str =
     "Tells what became of SMPP 3.4 messages, from captured sessions in a script on standard input";
 
 pub const USAGE: &str =
-    "smq capture [OPTIONS] --link <[HOST:]PORT=LINK> [FILE]... > SCRIPT\n       smq report [OPTIONS] < SCRIPT\n       smq query [OPTIONS] <NAME> < SCRIPT\n       smq check [OPTIONS] < SCRIPT\n       smq follow [OPTIONS] < ROWS\n       smq total [OPTIONS] [NAME] < SCRIPT\n       smq count [OPTIONS] --by <COLUMNS> < SCRIPT\n       smq messages [OPTIONS] < SCRIPT\n       smq receipts [OPTIONS] < SCRIPT\n       smq window <LENGTH> < ROWS\n       smq add [OPTIONS] <REPORT>... > CSV";
+    "smq capture [OPTIONS] --link <[HOST:]PORT=LINK> [FILE]... > SCRIPT\n       smq report [OPTIONS] < SCRIPT\n       smq query [OPTIONS] <NAME> < SCRIPT\n       smq check [OPTIONS] < SCRIPT\n       smq follow [OPTIONS] < ROWS\n       smq total [OPTIONS] [NAME] < SCRIPT\n       smq count [OPTIONS] --by <COLUMNS> < SCRIPT\n       smq messages [OPTIONS] < SCRIPT\n       smq receipts [OPTIONS] < SCRIPT\n       smq window <LENGTH> < ROWS\n       smq deal [OPTIONS] --settled <DONE> --rest <CARRY> < SCRIPT\n       smq deal [OPTIONS] --parts <K> --into <FOLDER> < SCRIPT\n       smq add [OPTIONS] <REPORT>... > CSV";
 
 /// What is said of usage where words are refused for what they name.
 pub const SHORT_USAGE: &str = "smq <SUBCOMMAND> [OPTIONS]";
@@ -69,6 +69,11 @@ pub const WINDOW: Help<'static> = Help {
     usage: "smq window <LENGTH> < ROWS",
 };
 
+pub const DEAL: Help<'static> = Help {
+    about: "Deals a script to scripts whose reports add up to its own: what is settled and the rest, or parts by key",
+    usage: "smq deal [OPTIONS] --settled <DONE> --rest <CARRY> < SCRIPT\n       smq deal [OPTIONS] --parts <K> --into <FOLDER> < SCRIPT",
+};
+
 pub const ADD: Help<'static> = Help {
     about: "Adds reports of scripts that were split by link, or dealt, and writes the report of the whole as CSV",
     usage: "smq add [OPTIONS] <REPORT>... > CSV",
@@ -78,7 +83,7 @@ pub const ADD: Help<'static> = Help {
 const SCRIPT: &str = "\
 SCRIPT is CSV records, one a line, as `piece,LINK,SESSION,DIR,MOMENT,HEX`, where DIR is client or centre and
 MOMENT is in ms since 1970 or YYYY-MM-DDTHH:MM:SSZ. It has at most 1,000,000 records and 268,435,456 octets
-(total, count, messages, receipts: any number). ROWS are the same, with `ask,NAME` or `ask,report` among them,
+(total, count, messages, receipts, deal: any number). ROWS are the same, with `ask,NAME` or `ask,report` among them,
 and without a limit; for follow also `ask,count,COLUMN,..`, and `lost,SESSION,DIRECTION,OCTETS` where octets are
 missing. `smq window 15m` writes ROWS again, and withdraws what is older than 15 minutes; `smq follow --window 15m`
 counts only the rest. A message takes some 2 KB of memory (follow: 5). FORMATS.md among the documents tells all
@@ -128,6 +133,38 @@ Status:
   3  a read or a write failed
   4  out of memory";
 
+/// What stands below the help of `deal`.
+pub const DEAL_MORE: &str = "\
+No request is parted from its response, and no accepted message or receipt from another of its link that has
+its key: these are a group. So each count of SCRIPT's report is the sum of the counts, and each list is as
+long as the lists together. `smq add --periods` adds the reports.
+
+With --settled and --rest a group goes to CARRY while it has one of these within its link's window (48 hours
+until set) at the last moment that is known. That is the clock, or the last moment of a session where that is
+later.
+
+  a request without a response, or a response without a request, of either side
+  a message that is open or unasked, for which a receipt may come, or ambiguous, whose receipts may come
+  a receipt that is stray, whose message's response may come
+
+So does what ends a direction: octets of a PDU that isn't whole, or a length that can't be. All else is
+settled, and goes to DONE. CARRY and the rows of the next period are the script of that one. So each message
+is counted in one period, that in which it was settled. After the last one CARRY is reported, too.
+
+DONE has a clock at the last moment that is known, at which what is past its window lapses. CARRY has
+SCRIPT's clock. What comes after its group was settled is counted by itself: an id that is used again isn't
+ambiguous, and another receipt is stray. So is a response or a receipt that comes later than its window.
+
+With --parts and --into groups go to K scripts by a hash of their link and key, and pairs without a key in
+turn. What ends a direction goes to the first.
+
+Each script begins with SCRIPT's rows of forms, windows and routes, so the next period's rows don't repeat
+the routes. Report it with the same --settings, which aren't in it. Each PDU is a row, at the moment of its
+last octet, in the order of its direction. So places are those of the new script.
+
+The status is 0; 1 where a row was refused; 2 for bad words, rows or settings; else 3. Nothing is written
+where it is 2.";
+
 /// What stands below the help of `add`.
 pub const ADD_MORE: &str = "\
 Each REPORT is what smq wrote as CSV, whole (`report`) or of one view or list (`query NAME`), all of the same,
@@ -140,7 +177,7 @@ receipts may come in any of them. So a link that has rows in two reports is told
 two, and nothing is written. Reports of a view other than `link` don't show it, and no report shows its settings or
 clock: look to these yourself.
 
-With --periods a link and a session may stand in many reports, since the tool deal cuts no pair and no group of
+With --periods a link and a session may stand in many reports, since smq deal cuts no pair and no group of
 messages and receipts. The counts are the sums. A place of a dealt script isn't that of the whole, so of each list
 only its length is written, as a line `count,NAME,COUNT` behind the views. Such a sum is a report that --periods
 adds again, as months to a year.

@@ -1,5 +1,6 @@
 //! Known values of the definitions: each is the contract of a function with no body.
-ghost use Rattle.smq_words.specs.Known.{KnowsAdd, KnowsCapture, KnowsCaptures, KnowsCheck, KnowsCount, KnowsFollow, KnowsLines, KnowsTotal, KnowsWindow, KnowsWords};
+ghost use Rattle.smq_words.specs.Known.{KnowsAdd, KnowsCapture, KnowsCaptures, KnowsCheck, KnowsCount, KnowsDeal, KnowsFollow, KnowsLines};
+ghost use Rattle.smq_words.specs.Known.{KnowsTotal, KnowsWindow, KnowsWords};
 
 /// The words of orders.
 pub fn known_words()
@@ -44,6 +45,11 @@ pub fn known_words_of_captures()
 /// Which words `window` takes, and which subcommands take `--window`.
 pub fn known_words_of_window()
     ensures { KnowsWindow }
+{}
+
+/// Which words `deal` takes.
+pub fn known_words_of_deal()
+    ensures { KnowsDeal }
 {}
 
 /// Which words `add` takes.

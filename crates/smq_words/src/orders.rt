@@ -1,6 +1,6 @@
 //! What the words of the program ask for.
 ghost use Rattle.std.specs.Prelude.{◌≡◌};
-ghost use Rattle.smq_words.specs.Words.{no_counting, texts_of_counting};
+ghost use Rattle.smq_words.specs.Words.{no_counting, no_dealing, texts_of_counting, texts_of_dealing};
 
 use smq_report::{Format, Output, Query};
 use std::alloc::Global;
@@ -18,6 +18,8 @@ pub enum Task {
     Total(Output),
     /// To play rows, however many there are, and to count the messages that they leave by columns.
     Count,
+    /// To deal a script to scripts whose reports add up to its own.
+    Deal,
     /// To add reports as CSV; of periods, a link and a session may stand in many.
     Add { of_periods: bool },
     /// To write the script of packet captures.
@@ -37,6 +39,8 @@ pub struct Order {
     pub window: Option<String>,
     /// What `count` counts by; nothing where the task is another.
     pub counting: Counting,
+    /// What `deal` writes; nothing where the task is another.
+    pub dealing: Dealing,
     /// Which captures are read, and how.
     pub captures: Captures,
 }
@@ -65,6 +69,33 @@ impl Counting {
     }
 }
 
+/// What `deal` writes, as it stands: values as texts.
+#[derive(Debug, Drop)]
+pub struct Dealing {
+    /// The path of --settled, if given.
+    pub settled: Option<String>,
+    /// The path of --rest, if given.
+    pub rest: Option<String>,
+    /// The value of --parts, if given.
+    pub parts: Option<String>,
+    /// The folder of --into, if given.
+    pub into: Option<String>,
+}
+
+impl Dealing {
+    /// Nothing.
+    pub(crate) fn none() -> Dealing
+        ensures { texts_of_dealing result ≡ no_dealing }
+    {
+        Dealing {
+            settled: None,
+            rest: None,
+            parts: None,
+            into: None,
+        }
+    }
+}
+
 /// The words of captures and of reports that are added, as they stand: values as texts.
 #[derive(Debug, Drop)]
 pub struct Captures {
@@ -82,7 +113,7 @@ pub struct Captures {
     pub every: Option<String>,
     /// Each --ask.
     pub questions: Vec<String>,
-    /// The folder of --into, if given.
+    /// The folder of `capture`'s --into, if given.
     pub into: Option<String>,
     /// The --by of `capture`, if given.
     pub by: Option<String>,

@@ -5,18 +5,19 @@ ghost use Rattle.clap.specs.Words.{app_of, new_app, rule_of};
 ghost use Rattle.clap.specs.declared.builder.command.Command.TheViews.{out-Command as fields_of};
 ghost use Rattle.clap.specs.declared.builder.value_parser.ValueParser.TheVariants.{Names};
 ghost use Rattle.smq_report.specs.Picks.{pick_names};
-ghost use Rattle.smq_words.specs.Words.{IsArgument, IsProgram, add_app, bare_program, capture_app, count_app, first_program, follow_app, format_names};
-ghost use Rattle.smq_words.specs.Words.{format_rule, name_rule, named_app, option_rule, optional_rule, options_app, settings_app, settings_rule};
+ghost use Rattle.smq_words.specs.Words.{IsArgument, IsProgram, add_app, bare_program, capture_app, count_app, deal_app, first_program, follow_app};
+ghost use Rattle.smq_words.specs.Words.{format_names, format_rule, name_rule, named_app, option_rule, optional_rule, options_app, settings_app, settings_rule};
 ghost use Rattle.smq_words.specs.Words.{texts_of, version_text, window_app, with_any_length};
 
 use crate::add_rules::{periods_flag, reports_argument};
 use crate::capture_rules::{
-    file_argument, required_link, with_captures, with_live, with_parts, with_reading,
+    file_argument, quiet_flag, required_link, with_captures, with_live, with_parts, with_reading,
 };
 use crate::count_rules::{columns_option, condition_option};
+use crate::deal_rules::with_dealing;
 use crate::help::{
-    ABOUT, ADD, ADD_MORE, CAPTURE, CAPTURE_MORE, CHECK, COUNT, FOLLOW, Help, MESSAGES, QUERY,
-    RECEIPTS, REPORT, TOTAL, USAGE, WINDOW,
+    ABOUT, ADD, ADD_MORE, CAPTURE, CAPTURE_MORE, CHECK, COUNT, DEAL, DEAL_MORE, FOLLOW, Help,
+    MESSAGES, QUERY, RECEIPTS, REPORT, TOTAL, USAGE, WINDOW,
 };
 use crate::names::FORMATS;
 use crate::window_rules::{length_argument, window_option};
@@ -106,6 +107,7 @@ fn with_any_length<'a>(
     let messages = settings_command(alloc, "messages", MESSAGES, more)?;
     let receipts = settings_command(alloc, "receipts", RECEIPTS, more)?;
     let window = window_command(alloc, more)?;
+    let deal = deal_command(alloc)?;
     let add = add_command(alloc)?;
     command
         .subcommand(total)?
@@ -113,6 +115,7 @@ fn with_any_length<'a>(
         .subcommand(messages)?
         .subcommand(receipts)?
         .subcommand(window)?
+        .subcommand(deal)?
         .subcommand(add)
 }
 
@@ -229,6 +232,15 @@ fn window_command<'a>(alloc: Global, more: &'a str) -> Result<Command<'a>, Alloc
     ensures local { IfOk result (λ command. (fields_of command).has_globals ≡ false) }
 {
     subcommand(alloc, "window", WINDOW, more).arg(length_argument(alloc))
+}
+
+/// The subcommand that deals a script to others, and its help.
+fn deal_command<'a>(alloc: Global) -> Result<Command<'a>, AllocError>
+    ensures rules { IfOk result (λ command. app_of command ≡ deal_app) }
+    ensures local { IfOk result (λ command. (fields_of command).has_globals ≡ false) }
+{
+    let dealt = with_dealing(alloc, subcommand(alloc, "deal", DEAL, DEAL_MORE))?;
+    dealt.arg(settings_option(alloc))?.arg(quiet_flag(alloc))
 }
 
 /// The subcommand that adds reports, and its help.

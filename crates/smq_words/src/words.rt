@@ -2,13 +2,13 @@
 ghost use Rattle.std.specs.Prelude.{◌≡◌, ◌++◌, Bool, Option, Some, IfErr, IfOk, OnOk, map, option_map, string_bytes, unwrap_or, codes};
 ghost use Rattle.clap.specs.Words.{Text, first_of, found_of, kind_of, rows_of, subcommand_rows_of};
 ghost use Rattle.smq_report.specs.Picks.{pick_name};
-ghost use Rattle.smq_words.specs.Words.{Asks, CaptureTexts, CountingTexts, HasCaptures, HasFlag, HasOrder, IsAsked, TakesWords, format_name};
-ghost use Rattle.smq_words.specs.Words.{texts_of, texts_of_captures, texts_of_counting, values_of};
-ghost use Rattle.smq_words.specs.within.Tasks.{counting_named, task_named};
+ghost use Rattle.smq_words.specs.Words.{Asks, CaptureTexts, CountingTexts, DealingTexts, HasCaptures, HasFlag, HasOrder, IsAsked, TakesWords};
+ghost use Rattle.smq_words.specs.Words.{format_name, texts_of, texts_of_captures, texts_of_counting, texts_of_dealing, values_of};
+ghost use Rattle.smq_words.specs.within.Tasks.{counting_named, dealing_named, task_named};
 
 use crate::help::{SHORT_USAGE, more_help};
 use crate::names::pick_names;
-use crate::orders::{Captures, Counting, Order, Task};
+use crate::orders::{Captures, Counting, Dealing, Order, Task};
 use crate::rules::{bare_command, command};
 use clap::error::ErrorKind;
 use clap::{ArgMatches, Error};
@@ -34,8 +34,8 @@ pub fn order<S: AsStr>(alloc: Global, words: &[S]) -> Result<Order, Error>
 /// What the matches of the words ask for. `clap` takes no words without a subcommand.
 fn order_in(alloc: Global, matches: &ArgMatches) -> Result<Order, AllocError>
     ensures { (task : Task) → (path window : Option Text)
-        → (counting : CountingTexts) → (captures : CaptureTexts)
-        → Asks (subcommand_rows_of matches.now) task path window counting captures
+        → (counting : CountingTexts) → (dealing : DealingTexts) → (captures : CaptureTexts)
+        → Asks (subcommand_rows_of matches.now) task path window counting dealing captures
         → IfOk result (IsAsked (subcommand_rows_of matches.now)) }
 {
     match matches.subcommand() {
@@ -45,6 +45,7 @@ fn order_in(alloc: Global, matches: &ArgMatches) -> Result<Order, AllocError>
             settings: None,
             window: None,
             counting: Counting::none(alloc),
+            dealing: Dealing::none(),
             captures: Captures::none(alloc),
         }),
     }
@@ -53,13 +54,14 @@ fn order_in(alloc: Global, matches: &ArgMatches) -> Result<Order, AllocError>
 /// What the matches of the subcommand of a name ask for.
 fn order_of(alloc: Global, name: &str, entered: &ArgMatches) -> Result<Order, AllocError>
     ensures { (task : Task) → (path window : Option Text)
-        → (counting : CountingTexts) → (captures : CaptureTexts)
-        → Asks (Some (name.now, rows_of (found_of entered.now))) task path window counting captures
+        → (counting : CountingTexts) → (dealing : DealingTexts) → (captures : CaptureTexts)
+        → Asks (Some (name.now, rows_of (found_of entered.now))) task path window counting dealing captures
         → IfOk result (IsAsked (Some (name.now, rows_of (found_of entered.now)))) }
 {
     let settings = given_text(alloc, entered, "settings")?;
     let window = given_text(alloc, entered, "window")?;
     let counting = counting_of(alloc, name, entered)?;
+    let dealing = dealing_of(alloc, name, entered)?;
     let captures = captures_of(alloc, entered)?;
     let task = task_of(name, entered);
     Ok(Order {
@@ -67,6 +69,7 @@ fn order_of(alloc: Global, name: &str, entered: &ArgMatches) -> Result<Order, Al
         settings,
         window,
         counting,
+        dealing,
         captures,
     })
 }
@@ -74,8 +77,8 @@ fn order_of(alloc: Global, name: &str, entered: &ArgMatches) -> Result<Order, Al
 /// The task for which the matches of the subcommand of a name ask.
 fn task_of(name: &str, entered: &ArgMatches) -> Task
     ensures { (task : Task) → (path window : Option Text)
-        → (counting : CountingTexts) → (captures : CaptureTexts)
-        → Asks (Some (name.now, rows_of (found_of entered.now))) task path window counting captures
+        → (counting : CountingTexts) → (dealing : DealingTexts) → (captures : CaptureTexts)
+        → Asks (Some (name.now, rows_of (found_of entered.now))) task path window counting dealing captures
         → result ≡ task }
 {
     let of_periods = is_given(entered, "periods");
@@ -103,6 +106,9 @@ fn task_named(name: &str, query: Query, of_periods: bool) -> Task
     }
     if name == "total" {
         return Task::Total(Output::Report(query));
+    }
+    if name == "deal" {
+        return Task::Deal;
     }
     if name == "add" {
         return Task::Add { of_periods };
@@ -144,6 +150,22 @@ fn counting_of(alloc: Global, name: &str, entered: &ArgMatches) -> Result<Counti
         columns: given_text(alloc, entered, "by")?,
         conditions: given_texts(alloc, entered, "where")?,
         zone: given_text(alloc, entered, "zone")?,
+    })
+}
+
+/// What the matches of the subcommand of a name say of dealing. The ids of `--parts` and `--into` are `count` and `folder`.
+fn dealing_of(alloc: Global, name: &str, entered: &ArgMatches) -> Result<Dealing, AllocError>
+    ensures { IfOk result (λ dealing.
+        texts_of_dealing dealing ≡ dealing_named name.now (rows_of (found_of entered.now))) }
+{
+    if name != "deal" {
+        return Ok(Dealing::none());
+    }
+    Ok(Dealing {
+        settled: given_text(alloc, entered, "settled")?,
+        rest: given_text(alloc, entered, "rest")?,
+        parts: given_text(alloc, entered, "count")?,
+        into: given_text(alloc, entered, "folder")?,
     })
 }
 

@@ -8,8 +8,10 @@ use Rattle.smq_words.proofs.rules.with_any_length.Goals as goal
 
 pub returns : goal.returns
 returns c =
-    IfOk-weaker c.subcommand-6.result _ _
+    IfOk-weaker c.subcommand-7.result _ _
     (λ m h. h.shape c.in_ok-add.ensures.local
+    ∙ ap₂ with_subcommand
+    (c.in_ok-subcommand-6.ensures.shape c.in_ok-deal.ensures.local
     ∙ ap₂ with_subcommand
     (c.in_ok-subcommand-5.ensures.shape c.in_ok-window.ensures.local
     ∙ ap₂ with_subcommand
@@ -26,4 +28,5 @@ returns c =
     (ap (λ (a : App). a.top) c.in_ok-messages.ensures.rules))
     (ap (λ (a : App). a.top) c.in_ok-receipts.ensures.rules))
     (ap (λ (a : App). a.top) c.in_ok-window.ensures.rules))
-    (ap (λ (a : App). a.top) c.in_ok-add.ensures.rules)) c.subcommand-6.ensures
+    (ap (λ (a : App). a.top) c.in_ok-deal.ensures.rules))
+    (ap (λ (a : App). a.top) c.in_ok-add.ensures.rules)) c.subcommand-7.ensures

@@ -52,5 +52,5 @@ returns-clause-order g c =
     let asks = subst Asked (sym (entered ∙ ap (λ (a : App). subcommand_of a words) is.is_program)) asked in (
       app,
       is,
-      subst (λ e. IsAsked e c.in_ok-order_in.field-0) entered (c.in_ok-order_in.ensures asks.0 asks.1 asks.2 asks.3 asks.4 asks.5),
+      subst (λ e. IsAsked e c.in_ok-order_in.field-0) entered (c.in_ok-order_in.ensures asks.0 asks.1 asks.2 asks.3 asks.4 asks.5 asks.6),
     )

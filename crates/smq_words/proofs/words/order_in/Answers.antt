@@ -16,11 +16,11 @@ module _ {Z : Type 0} where
   matched b = rows_of (found_of (out-SubCommand (box_value b)).matches)
 
 pub returns-in-Some : goal.returns-in-Some
-returns-in-Some c task path window counting captures asks =
+returns-in-Some c task path window counting dealing captures asks =
     let o = (out-ArgMatches c.args.matches.now).subcommand in
     let name = c.in-Some.name.now in
     let rows = rows_of (found_of c.in-Some.entered.now) in
     let is : subcommand_rows_of c.args.matches.now ≡ Some (name, rows) =
     entered_is o name_of matched name rows c.in-Some.ensures.name (c.in-Some.ensures.rows ∙ second_is o name_of matched) in
     subst (λ e. IfOk c.order_of.result (IsAsked e)) (sym is)
-    (c.order_of.ensures task path window counting captures (subst (λ e. Asks e task path window counting captures) is asks))
+    (c.order_of.ensures task path window counting dealing captures (subst (λ e. Asks e task path window counting dealing captures) is asks))
