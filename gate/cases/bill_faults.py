@@ -1,4 +1,6 @@
 """Words and files that tools/statement and tools/dispute refuse, for gate/check-bills: what is told, and the status."""
+import struct
+
 COUNTS = b"link,network,day,outcome,messages\n1,23410,2026-11-05,delivered,3\n"
 UNPAID = b"link,network,day,outcome,messages\n1,23410,2026-11-05,open,3\n1,23410,2026-11-06,failed,1\n"
 PRICES = b"link,route,network,from,for,price,currency\n1,,23410,2026-11-01,delivered,0.045,EUR\n"
@@ -87,4 +89,16 @@ DISPUTES = (
         ["--columns", "price=1"], ["--columns", "id=1,id=2"], ["--columns", "id=0"], ["--columns", "id"], ["--form", "hex"],
         ["--link", "-1"],
         ["--from", "2026-02-30"], ["--until", "2026-1-1"], ["--until", "99999999999999999999"])),
+    (MESSAGES, BILLED, ["--zone", "billed.csv"], "time zone billed.csv: no TZif file"),
 )
+# In a time zone an hour ahead of UTC in winter: messages around the ends of its November, prices of its days, and what is owed
+ZONE = b"".join((b"TZif2", bytes(15), struct.pack(">6L", 0, 0, 0, 0, 1, 4), struct.pack(">lBB", 3600, 0, 0), b"CET\0")) * 2 + b"\nCET-1CEST,M3.5.0,M10.5.0/3\n"
+LOCAL = b"link,session,offset,moment,route,network,outcome,id,key\n" + b"".join(
+    b"1,10,%d,%d,,,delivered,%d,%d\n" % (at, moment, at, at)
+    for at, moment in enumerate((1_793_487_599_999, 1_793_487_600_000, 1_794_610_799_999, 1_794_610_800_000, 1_796_079_599_999, 1_796_079_600_000)))
+LOCAL_BILLED = b"".join(b"%d\n" % at for at in range(6))
+LOCAL_PRICES = (b"link,route,network,from,for,price,currency\n1,,,2026-10-31,delivered,0.01,EUR\n1,,,2026-11-01,delivered,0.10,EUR\n"
+                b"1,,,2026-11-14,delivered,1,EUR\n1,,,2026-12-01,delivered,10,EUR\n")
+# By local days messages 1 to 4 are of November, two at 0.10 and two at 1, and 0 and 5 at 0.01 and 10; by days of UTC 2 to 5, and 0 and 1 at 0.01
+LOCAL_TOLD = ((["--zone", "zone.csv"], "EUR: owed 2.20, billed 12.21, difference 10.01: unknown 10.01"),
+              ([], "EUR: owed 2.20, billed 2.22, difference 0.02: unknown 0.02"))

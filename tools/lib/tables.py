@@ -3,12 +3,13 @@ import argparse
 import csv
 import datetime
 import re
+import struct
 import sys
 
 LONGEST_LINE = 1_048_576
 LAST_MOMENT = 4_102_444_800_000
 DECIMAL = re.compile(r"0|[1-9][0-9]{0,19}", re.A)
-EPOCH = datetime.datetime(1970, 1, 1)
+EPOCH = datetime.datetime(1970, 1, 1, tzinfo=datetime.timezone.utc)
 # How the octets of ids are read, whatever they are, and written again
 OCTETS = {"encoding": "utf-8", "errors": "surrogateescape", "newline": ""}
 
@@ -90,14 +91,30 @@ def date_of(text):
         return None
 
 
-def moment_of(text):
-    """Returns the ms since 1970 in UTC of a moment in ms, an instant YYYY-MM-DDTHH:MM:SSZ or the beginning of a date."""
+def zone_of(path):
+    """Returns the time zone of a file (TZif, RFC 8536), or UTC without one."""
+    if not path:
+        return datetime.timezone.utc
+    try:
+        import zoneinfo
+    except ImportError:
+        raise Unfit("--zone needs Python 3.9 or newer") from None
+    with open(path, "rb") as file:
+        try:
+            return zoneinfo.ZoneInfo.from_file(file)
+        except (ValueError, IndexError, struct.error):
+            raise Unfit(f"time zone {path}: no TZif file") from None
+
+
+def moment_of(text, zone):
+    """Returns the ms since 1970 in UTC of a moment in ms, an instant YYYY-MM-DDTHH:MM:SSZ or the beginning of a date in a time zone."""
     try:
         if re.fullmatch(r"[0-9]{1,20}", text, re.A):
             moment = int(text)
         else:
             found = re.fullmatch(r"([0-9]{4}-[0-9]{2}-[0-9]{2})(?:T([0-9]{2}:[0-9]{2}:[0-9]{2})Z)?", text, re.A)
-            instant = datetime.datetime.fromisoformat(f"{found[1]} {found[2] or '00:00:00'}") if found else None
+            instant = datetime.datetime.fromisoformat(f"{found[1]} {found[2] or '00:00:00'}") if found else EPOCH
+            instant = instant.replace(tzinfo=datetime.timezone.utc if found and found[2] else zone)
             moment = (instant - EPOCH) // datetime.timedelta(milliseconds=1) if found else -1
     except ValueError:
         moment = -1
@@ -106,8 +123,9 @@ def moment_of(text):
     return moment
 
 
-def day_of(moment):
-    return f"{EPOCH + datetime.timedelta(milliseconds=moment):%Y-%m-%d}"
+def day_of(moment, zone):
+    """Returns the date of a moment in a time zone."""
+    return f"{(EPOCH + datetime.timedelta(milliseconds=moment)).astimezone(zone):%Y-%m-%d}"
 
 
 def quoted(value):
