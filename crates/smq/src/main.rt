@@ -12,10 +12,12 @@ mod add;
 mod capture;
 mod capture_rows;
 mod capture_words;
+mod deal;
 mod error_lines;
 mod first_octets;
 mod laws;
 mod live;
+mod played;
 mod progress;
 mod questions;
 mod scripts;
@@ -29,6 +31,7 @@ use add::run_add;
 use capture::run_with_captures;
 use capture_words::has_words;
 use clap::error::ErrorKind;
+use deal::run_deal;
 use first_octets::{FirstOctets, Mark};
 use live::{run_follow, run_window};
 use progress::{CountedRows, Progress, StandardOutput, Terminals};
@@ -39,7 +42,7 @@ use smq_kit::Refusal;
 use smq_load::MOST_SETTINGS;
 use smq_report::{Output, Query};
 use smq_window::Length;
-use smq_words::{Captures, Order, Task, bad_words, order, own_words};
+use smq_words::{Captures, Dealing, Order, Task, bad_words, order, own_words};
 use status::{BAD_INPUT, DONE, FAULT, check_status, fault_status, ran_status};
 use std::io::{IsTerminal, Read, Write};
 use std::process::ExitCode;
@@ -142,6 +145,7 @@ where
         settings,
         counting,
         window,
+        dealing,
         captures,
     } = order;
     if let Task::Add { of_periods } = task {
@@ -152,6 +156,9 @@ where
     } else {
         Progress::none()
     };
+    if task == Task::Deal {
+        return read_and_deal(rt, dealing, &settings, progress);
+    }
     let wanted = match wanted_of(rt, task, &counting, &window, progress) {
         Ok(wanted) => wanted,
         Err(status) => return status,
@@ -163,6 +170,23 @@ where
         Ok(octets) => run_reading(rt, wanted, octets.as_slice(), captures, start),
         Err(error) => print_unread_settings(rt, path.as_str(), &error),
     }
+}
+
+/// Reads settings, deals the rows of standard input, and gives the status.
+fn read_and_deal<R>(rt: &R, dealing: Dealing, settings: &Option<String>, progress: Progress) -> u8
+where
+    R: Files + Input + Print + Eprint + AllocGlobal + Clock,
+{
+    let mut octets = Vec::new(rt.alloc());
+    if let Some(path) = settings {
+        octets = match read_start(rt, path.as_str(), MOST_SETTINGS) {
+            Ok(octets) => octets,
+            Err(error) => return print_unread_settings(rt, path.as_str(), &error),
+        };
+    }
+    let mut rows = FirstOctets::new(rt.reader());
+    let status = run_deal(rt, dealing, octets.as_slice(), &mut rows, progress);
+    print_mark(rt, status, rows.mark())
 }
 
 /// What is to be done: a task, what is counted by, and how long what came is kept.
@@ -359,7 +383,7 @@ where
                 None => BAD_INPUT,
             };
         }
-        Task::Add { of_periods: _ } | Task::Capture => return BAD_INPUT,
+        Task::Add { of_periods: _ } | Task::Capture | Task::Deal => return BAD_INPUT,
         Task::Check => {
             let checked = write_check(rt, settings, &mut counted, &mut writer);
             progress.take_away(rt);
