@@ -1,10 +1,11 @@
 //! What a field of a record says: a word, a number in decimal digits, or an instant `YYYY-MM-DDTHH:MM:SSZ` (RFC 3339, section 5.6), in
 //! UTC, with no fraction of a second and no other offset.
-ghost use Rattle.std.specs.Prelude.{◌≡◌, IfOk, ◌+◌, ◌*◌, ◌≤◌, ◌<◌, ◌↔◌, pos, IsTrue, IsSome, IfSome, length};
+ghost use Rattle.std.specs.Prelude.{◌≡◌, IfOk, ◌+◌, ◌-◌, ◌*◌, ◌^◌, ◌≤◌, ◌<◌, ◌↔◌, true, pos, IsTrue, IsSome, IfSome, length};
 ghost use Rattle.std.specs.Str.{bytes_eq};
 ghost use Rattle.std.specs.Char.{is_ascii_digit};
 ghost use Rattle.std.specs.List.{list_all};
-ghost use Rattle.smq_load.specs.Decimal.{decimal_to, is_decimal};
+ghost use Rattle.smq_kit.specs.Keys.{number_below};
+ghost use Rattle.smq_load.specs.Decimal.{decimal_to, is_decimal, sum_of};
 ghost use Rattle.smq_load.specs.Fields.{dir_of, form_of, link_of, moment_of, network_of, octets_of, prefix_of, route_of, session_of, window_of};
 ghost use Rattle.jiff.specs.Words.{IsEpochDay, IsWithin, IsYmd};
 ghost use Rattle.smq_load.specs.Instant.{day_number_of, day_of, has_marks, instant_of, is_date, milliseconds_of, moment_at, second_of};
@@ -16,7 +17,6 @@ use smq_kit::{
     Digits, Dir, Form, LAST_MOMENT, LinkId, Moment, Network, RouteId, SessionId, Window,
 };
 use std::alloc::{AllocError, Global};
-use std::str;
 
 const MOST_DIGITS: usize = 20;
 
@@ -133,17 +133,32 @@ pub fn read_decimal(text: &[u8], greatest: u64) -> Option<u64>
     if !has_digits(text) {
         return None;
     }
-    let Ok(digits) = str::from_utf8(text) else {
-        return None;
-    };
-    let Ok(number) = digits.parse::<u64>() else {
-        return None;
-    };
+    let number = number_of(text)?;
     if number <= greatest {
         Some(number)
     } else {
         None
     }
+}
+
+/// The number that decimal digits say, where it is below 2^64.
+fn number_of(digits: &[u8]) -> Option<u64>
+    requires { list_all is_ascii_digit digits.now ≡ true }
+    ensures { result ≡ number_below (2 ^ 64) (sum_of digits.now) }
+{
+    let mut number = 0u64;
+    for digit in digits {
+        number = with_digit(number, *digit)?;
+    }
+    Some(number)
+}
+
+/// A number with one digit more behind it, where that is below 2^64.
+fn with_digit(number: u64, digit: u8) -> Option<u64>
+    requires { is_ascii_digit digit ≡ true }
+    ensures { result ≡ number_below (2 ^ 64) (number * 10 + (digit - 48)) }
+{
+    number.checked_mul(10)?.checked_add((digit - b'0') as u64)
 }
 
 /// Whether a text is 1 to 20 decimal digits.
