@@ -55,6 +55,13 @@ impl HashedKey {
         self.link
     }
 
+    /// The hash of what it is on its link.
+    pub fn hash(&self) -> u64
+        ensures { result ≡ hash_of self.now.key }
+    {
+        self.hash
+    }
+
     /// An equal key. It takes no memory.
     pub fn copy(&self) -> HashedKey
         ensures { result ≡ self.now }
