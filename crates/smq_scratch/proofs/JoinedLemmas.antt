@@ -15,14 +15,13 @@ use Rattle.smq_present.specs.within.Lists.{notes_of, receipt_notes_listed, recei
 use Rattle.smq_present.proofs.lemmas.whole.AgreePresent.{notes-are}
 use Rattle.smq_present.proofs.lemmas.join.MoveLemmas.{fact-place}
 use Rattle.smq_present.proofs.lemmas.whole.Tallied.{facts-apart, facts-rise, made-of-entries, values-placed}
-use Rattle.smq_scratch.specs.declared.joined.Keys.{Keys}
-use Rattle.smq_scratch.specs.within.Joined.{HasKeys}
-use Rattle.smq_scratch.specs.within.Matches.{lines_kept}
-use Rattle.smq_scratch.specs.Lines.{listing_of, receipt_lines}
-use Rattle.smq_present.specs.within.Sourced.{SessionView, receipts_in, sourced_of}
-use Rattle.smq_scratch.proofs.Collected.{receipts-present}
+use Rattle.smq_scratch.specs.declared.groups.Group.{Group}
+use Rattle.smq_scratch.specs.declared.receipts.NumberedReceipt.{NumberedReceipt}
+use Rattle.smq_scratch.specs.within.Groups.{lines_kept}
+use Rattle.smq_scratch.specs.within.Joined.{HasReceipts}
+use Rattle.smq_scratch.specs.Lines.{listing_of}
+use Rattle.smq_scratch.proofs.Grouped.{lines-kept}
 use Rattle.smq_scratch.proofs.LineLaws.{lists-are}
-use Rattle.smq_scratch.proofs.Matched.{lines-kept}
 
 -- facts of what is present are of different places
 pub apart : (p : PresentValue) (fs : List Fact) → fs ≡ values (facts_of p.settings (traffic_of p.sessions)) → AreOfDifferentPlaces fs
@@ -38,18 +37,9 @@ tables-are p fs ns is noted =
     ap facts_at is ∙ ap from_entries (values-placed facts (fact-place p.settings (traffic_of p.sessions))) ∙ made-of-entries facts in
     λ i. tables_of (counted i) ((ap listed_set noted ∙ sym (notes-are p)) i)
 
--- the lines that maps give for the receipts of sessions are those for what is present
-pub lines-present : (p : PresentValue) (keys : Keys) (xs : List SessionView) → xs ≡ sourced_of p → HasKeys p keys
-    → lines_kept keys.matches.messages keys.deciders.receipts (flat_map receipts_in xs) ≡ receipt_lines p
-lines-present p keys xs sessions has =
-    (λ i. lines_kept keys.matches.messages keys.deciders.receipts (receipts-present p xs sessions i))
-    ∙ lines-kept (submits_of p) (receipts_of p) (receipts_of p) keys.matches.messages keys.deciders.receipts has.matches has.deciders
-
 -- the notes of sessions and their listed receipts are those of what is present
-pub notes-made : (p : PresentValue) (keys : Keys) (xs : List SessionView) (old new : List Listed) → xs ≡ sourced_of p → HasKeys p keys
-    → old ≡ notes_of p
-    → new ≡ old ++ flat_map listing_of (lines_kept keys.matches.messages keys.deciders.receipts (flat_map receipts_in xs))
-    → new ≡ notes_of p ++ receipt_notes_listed p
-notes-made p keys xs old new sessions has noted is =
-    is ∙ (λ i. noted i ++ flat_map listing_of (lines-present p keys xs sessions has i))
+pub notes-made : (p : PresentValue) (groups : List Group) (rs : List NumberedReceipt) (old new : List Listed) → HasReceipts p groups rs
+    → old ≡ notes_of p → new ≡ old ++ flat_map listing_of (lines_kept groups rs) → new ≡ notes_of p ++ receipt_notes_listed p
+notes-made p groups rs old new has noted is =
+    is ∙ (λ i. noted i ++ flat_map listing_of (lines-kept groups (submits_of p) (receipts_of p) (receipts_of p) rs has i))
     ∙ ap (λ ys. notes_of p ++ ys) (lists-are (submits_of p) (receipts_of p) (receipts_of p))

@@ -1,6 +1,6 @@
-pub mod KeyMaps
+pub mod KeyNumbered
 pub mod Deciding
-pub mod Matched
+pub mod Grouped
 pub mod LineLaws
 pub mod DecidedLines
 pub mod NamedLines

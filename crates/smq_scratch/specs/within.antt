@@ -1,3 +1,4 @@
 -- What the code keeps, which no public contract names.
-pub mod Matches
+pub mod KeyNumbers
+pub mod Groups
 pub mod Joined

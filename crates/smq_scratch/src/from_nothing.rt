@@ -39,7 +39,7 @@ pub fn audit<R: Threads + Sync>(
     let decoded = decode_all(rt, alloc, kept.as_slice())?;
     let sessions = decoded_sessions(alloc, decoded.as_slice())?;
     let read = read_all(rt, alloc, sessions.as_slice())?;
-    let joined = Joined::of_read(alloc, sessions, read)?;
+    let joined = Joined::of_read(alloc, sessions.as_slice(), read)?;
     tables_of(alloc, present, joined)
 }
 
@@ -49,13 +49,21 @@ fn tables_of(alloc: Global, present: &Present, joined: Joined<'_>) -> Result<Tab
     ensures { IfOk result (λ tables. tables.shown ≡ scratch present.now) }
 {
     let Joined {
-        sessions,
         submits,
+        numbers,
         mut notes,
-        keys,
+        receipts,
+        groups,
     } = joined;
-    push_receipt_notes(&mut notes, sessions.as_slice(), &keys)?;
-    let facts = facts_of(alloc, present, submits.as_slice(), &keys)?;
+    let groups = groups.as_slice();
+    push_receipt_notes(&mut notes, receipts.as_slice(), groups)?;
+    let facts = facts_of(
+        alloc,
+        present,
+        submits.as_slice(),
+        numbers.as_slice(),
+        groups,
+    )?;
     let tables = Tables::of(alloc, facts.as_slice(), notes.as_slice())?;
     Ok(tables)
 }

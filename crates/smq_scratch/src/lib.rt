@@ -4,11 +4,12 @@
 #![tactic(auto)]
 
 mod blanked;
-mod deciders;
 mod from_nothing;
+mod groups;
 mod joined;
+mod key_numbers;
 mod laws;
-mod matches;
+mod receipts;
 mod received;
 mod submitted;
 

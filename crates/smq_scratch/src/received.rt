@@ -1,19 +1,14 @@
 //! A line for each delivery receipt that is present, and the receipts that need a look.
 ghost use Rattle.std.specs.Prelude.{◌≡◌, ◌++◌, IfOk, OnOk, option_to_list, option_copied};
 ghost use Rattle.std.specs.List.{flat_map};
-ghost use Rattle.smq_present.specs.present.Kept.{receipt_in};
-ghost use Rattle.smq_present.specs.within.Receipts.{receipt_by};
 ghost use Rattle.smq_scratch.specs.Lines as lines;
-ghost use Rattle.smq_present.specs.within.Sourced.{receipts_in};
-ghost use Rattle.smq_scratch.specs.within.Matches.{lines_kept, number_in, place_in};
+ghost use Rattle.smq_scratch.specs.within.Groups.{line_kept, lines_kept, number_in, place_in};
 
-use crate::deciders::{PlacedReceipt, receipt_at};
-use crate::joined::{Joined, Keys};
-use crate::matches::Match;
+use crate::groups::{Group, Match, group_at};
+use crate::joined::Joined;
+use crate::receipts::{NumberedReceipt, PlacedReceipt};
 use smq_kit::Place;
-use smq_present::{
-    List, Listed, Present, ReceiptLine, ReceiptStanding, SessionForms, SessionView, StoredPdu,
-};
+use smq_present::{List, Listed, Present, ReceiptLine, ReceiptStanding};
 use std::alloc::{AllocError, Global};
 
 /// A line for each delivery receipt that is present, in the order of their places: how it stands to the messages that are accepted
@@ -25,69 +20,58 @@ pub fn receipt_lines<'a>(
     ensures { IfOk result (λ made. made.items ≡ lines.receipt_lines present.now) }
 {
     let joined = Joined::of(alloc, present)?;
-    let keys = &joined.keys;
-    let mut made = Vec::new(alloc);
-    for view in joined.sessions.as_slice() {
-        for pdu in view.session.centre.pdus() {
-            if let Some(line) = line_at(view.source, pdu, keys) {
-                made.push(line)?;
-            }
-        }
+    let receipts = joined.receipts.as_slice();
+    let groups = joined.groups.as_slice();
+    let mut made = Vec::with_capacity(alloc, receipts.len())?;
+    for receipt in receipts {
+        made.push(line_of(receipt, groups))?;
     }
     Ok(made)
 }
 
-/// Puts the receipts of sessions that are in a list after what is there.
+/// Puts the receipts that are in a list after what is there.
 pub(crate) fn push_receipt_notes(
     notes: &mut Vec<Listed>,
-    sessions: &[SessionView<'_>],
-    keys: &Keys<'_>,
+    receipts: &[NumberedReceipt<'_>],
+    groups: &[Group<'_>],
 ) -> Result<(), AllocError>
-    ensures { OnOk result (notes.new.items ≡ notes.old.items ++ flat_map lines.listing_of
-        (lines_kept keys.now.matches.messages keys.now.deciders.receipts (flat_map receipts_in sessions.now))) }
+    ensures { OnOk result (notes.new.items ≡ notes.old.items ++ flat_map lines.listing_of (lines_kept groups.now receipts.now)) }
 {
-    for view in sessions {
-        let centre = view.session.centre.pdus();
-        for pdu in centre {
-            if let Some(note) = note_at(view.source, pdu, keys) {
-                notes.push(note)?;
-            }
+    for receipt in receipts {
+        if let Some(note) = note_of(receipt, groups) {
+            notes.push(note)?;
         }
     }
     Ok(())
 }
 
-/// A PDU of the centre in its list, if it is a receipt that has one.
-fn note_at(source: SessionForms, pdu: &StoredPdu, keys: &Keys<'_>) -> Option<Listed>
-    ensures { option_to_list result ≡ flat_map lines.listing_of
-        (lines_kept keys.now.matches.messages keys.now.deciders.receipts
-        (receipt_by (receipt_in pdu.now.content) source pdu.now)) }
+/// A receipt in its list, if it has one.
+fn note_of(receipt: &NumberedReceipt<'_>, groups: &[Group<'_>]) -> Option<Listed>
+    ensures { option_to_list result ≡ lines.listing_of (line_kept groups.now receipt.now) }
 {
-    let (key, receipt) = receipt_at(source, pdu)?;
-    let found = keys.matches.get(&key).copied();
-    let list = list_of(standing(found, keys.deciders.receipt(&key), &receipt))?;
-    let place = receipt.place;
+    let (found, decider) = group_at(groups, receipt.number);
+    let list = list_of(standing(found, decider, &receipt.receipt))?;
+    let place = receipt.receipt.place;
     Some(Listed { list, place })
 }
 
-/// The line for a PDU of the centre, if it is a receipt.
-fn line_at<'a>(source: SessionForms, pdu: &'a StoredPdu, keys: &Keys<'_>) -> Option<ReceiptLine<'a>>
-    ensures { option_to_list result ≡ lines_kept keys.now.matches.messages keys.now.deciders.receipts
-        (receipt_by (receipt_in pdu.now.content) source pdu.now) }
+/// The line for a receipt.
+fn line_of<'a>(receipt: &NumberedReceipt<'a>, groups: &[Group<'_>]) -> ReceiptLine<'a>
+    ensures { result ≡ line_kept groups.now receipt.now }
 {
-    let (key, receipt) = receipt_at(source, pdu)?;
-    let found = keys.matches.get(&key).copied();
-    let standing = standing(found, keys.deciders.receipt(&key), &receipt);
-    Some(ReceiptLine {
-        link: receipt.received.link,
-        place: receipt.place,
-        moment: receipt.received.moment,
-        receipt: receipt.received.receipt,
+    let (found, decider) = group_at(groups, receipt.number);
+    let placed = &receipt.receipt;
+    let standing = standing(found, decider, placed);
+    ReceiptLine {
+        link: placed.received.link,
+        place: placed.place,
+        moment: placed.received.moment,
+        receipt: placed.received.receipt,
         standing,
         message: message_at(found),
-        form: source.forms.receipt,
-        command: receipt.command,
-    })
+        form: receipt.form,
+        command: placed.command,
+    }
 }
 
 /// How a receipt stands, by the messages that match it and by the receipt that decides these.

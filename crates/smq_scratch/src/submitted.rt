@@ -1,16 +1,20 @@
 //! What is known of each submitted message that is present, and the lines for them.
-ghost use Rattle.std.specs.Prelude.{◌≡◌, ◌<◌, ◌^◌, option_map, length, IfOk};
+ghost use Rattle.std.specs.Prelude.{◌≡◌, ◌==◌, ◌<◌, ◌^◌, List, Option, option_map, length, IfOk};
 ghost use Rattle.std.specs.Iterator.{YieldsFirst, item_count};
 ghost use Rattle.std.specs.Option.{option_copied};
+ghost use Rattle.smq_kit.specs.declared.link_key.LinkKey.{LinkKey};
 ghost use Rattle.smq_present.specs.join.Outcomes.{is_shared};
 ghost use Rattle.smq_present.specs.within.Accepted.{decider_of};
 ghost use Rattle.smq_present.specs.within.Lists.{facts_listed, receipts_of, submits_of};
+ghost use Rattle.smq_present.specs.within.Messages.{SubmittedMessage};
 ghost use Rattle.smq_present.specs.within.Outcomes.{fact_among, received, standing_of};
+ghost use Rattle.smq_present.specs.within.Receipts.{KeyedReceipt};
 ghost use Rattle.smq_scratch.specs.Lines as lines;
-ghost use Rattle.smq_scratch.specs.within.Joined.{HasKeys};
+ghost use Rattle.smq_scratch.specs.within.Groups.{AreOfMessages, HasGroup, number_in};
 
-use crate::deciders::PlacedReceipt;
-use crate::joined::{Joined, Keys};
+use crate::groups::{Group, Match, group_at};
+use crate::joined::Joined;
+use crate::receipts::PlacedReceipt;
 use smq_present::{
     Fact, MessageLine, Present, ReceivedReceipt, SubmittedMessage, fact_in_settings,
 };
@@ -26,7 +30,9 @@ pub struct MessageLines<'a> {
     present: &'a Present,
     /// The messages whose lines are left.
     submits: IntoIter<SubmittedMessage<'a>>,
-    keys: Keys<'a>,
+    /// The numbers of their keys.
+    numbers: IntoIter<Option<usize>>,
+    groups: Vec<Group<'a>>,
 }
 
 impl<'a> Model for MessageLines<'a> {
@@ -35,14 +41,15 @@ impl<'a> Model for MessageLines<'a> {
     ghost use Rattle.smq_present.specs.join.Lines.{MessageLineValue};
     ghost use Rattle.smq_present.specs.within.Lists.{receipts_of, submits_of};
     ghost use Rattle.smq_scratch.specs.Lines.{message_line};
-    ghost use Rattle.smq_scratch.specs.within.Joined.{HasKeys};
+    ghost use Rattle.smq_scratch.specs.within.Groups.{AreOfMessages};
 
     ghost Value = { List MessageLineValue };
 
     ghost view = { λ l. map (message_line l.present.now.settings (submits_of l.present.now) (receipts_of l.present.now))
         (into_iter_items l.submits) };
 
-    ghost invariant = { λ l. HasKeys l.present.now l.keys };
+    ghost invariant = { λ l. AreOfMessages l.groups.items (submits_of l.present.now) (receipts_of l.present.now)
+        (into_iter_items l.submits) (into_iter_items l.numbers) };
 }
 
 impl<'a> MessageLines<'a> {
@@ -51,11 +58,17 @@ impl<'a> MessageLines<'a> {
         ensures all { IfOk result (λ left. left ≡ lines.message_lines present.now) }
         ensures few { IfOk result (λ left. length left < 2 ^ 63) }
     {
-        let Joined { submits, keys, .. } = Joined::of(alloc, present)?;
+        let Joined {
+            submits,
+            numbers,
+            groups,
+            ..
+        } = Joined::of(alloc, present)?;
         Ok(MessageLines {
             present,
             submits: submits.into_iter(),
-            keys,
+            numbers: numbers.into_iter(),
+            groups,
         })
     }
 
@@ -76,7 +89,9 @@ impl<'a> Iterator for MessageLines<'a> {
 
     fn next(&mut self) -> Option<MessageLine<'a>> {
         let submit = self.submits.next()?;
-        Some(message_line(self.present, &submit, &self.keys))
+        let number = self.numbers.next()?;
+        let groups = self.groups.as_slice();
+        Some(message_line(self.present, &submit, number, groups))
     }
 }
 
@@ -100,15 +115,17 @@ pub(crate) fn facts_of(
     alloc: Global,
     present: &Present,
     submits: &[SubmittedMessage<'_>],
-    keys: &Keys<'_>,
+    numbers: &[Option<usize>],
+    groups: &[Group<'_>],
 ) -> Result<Vec<Fact>, AllocError>
     requires submits { submits.now ≡ submits_of present.now }
-    requires keys { HasKeys present.now keys.now }
+    requires numbers { AreOfMessages groups.now (submits_of present.now) (receipts_of present.now) submits.now numbers.now }
     ensures { IfOk result (λ made. made.items ≡ facts_listed present.now) }
 {
     let mut facts = Vec::with_capacity(alloc, submits.len())?;
-    for submit in submits {
-        facts.push(known_of(present, submit, keys).0)?;
+    for at in 0..submits.len() {
+        let number = numbers[at];
+        facts.push(known_of(present, &submits[at], number, groups).0)?;
     }
     Ok(facts)
 }
@@ -117,12 +134,13 @@ pub(crate) fn facts_of(
 fn message_line<'a>(
     present: &Present,
     submit: &SubmittedMessage<'a>,
-    keys: &Keys<'_>,
+    number: Option<usize>,
+    groups: &[Group<'_>],
 ) -> MessageLine<'a>
-    requires { HasKeys present.now keys.now }
+    requires { HasGroup groups.now (submits_of present.now) (receipts_of present.now) submit.now.key number }
     ensures { result ≡ lines.message_line present.now.settings (submits_of present.now) (receipts_of present.now) submit.now }
 {
-    let (fact, decider) = known_of(present, submit, keys);
+    let (fact, decider) = known_of(present, submit, number, groups);
     MessageLine {
         fact,
         moment: submit.request.moment,
@@ -144,15 +162,16 @@ fn message_line<'a>(
 fn known_of<'d, 'a>(
     present: &Present,
     submit: &SubmittedMessage<'_>,
-    keys: &'d Keys<'a>,
+    number: Option<usize>,
+    groups: &'d [Group<'a>],
 ) -> (Fact, Option<&'d PlacedReceipt<'a>>)
-    requires { HasKeys present.now keys.now }
+    requires { HasGroup groups.now (submits_of present.now) (receipts_of present.now) submit.now.key number }
     ensures fact { result.0
         ≡ fact_among present.now.settings (submits_of present.now) (receipts_of present.now) submit.now }
     ensures decider { option_copied result.1
         ≡ decider_of (submits_of present.now) (receipts_of present.now) submit.now.key }
 {
-    let (shared, decider) = decision(present, submit, keys);
+    let (shared, decider) = decision(number, groups);
     let settings = present.settings();
     let message = submit.message();
     let received = received_in(decider);
@@ -160,26 +179,34 @@ fn known_of<'d, 'a>(
     (fact, decider)
 }
 
-/// Whether a message shares its key, and the receipt that decides it.
+/// Whether a message shares its key, and the receipt that decides it, by the number of its key.
 fn decision<'d, 'a>(
-    present: &Present,
-    submit: &SubmittedMessage<'_>,
-    keys: &'d Keys<'a>,
+    number: Option<usize>,
+    groups: &'d [Group<'a>],
 ) -> (bool, Option<&'d PlacedReceipt<'a>>)
-    requires { HasKeys present.now keys.now }
-    ensures shared { result.0
-        ≡ is_shared (option_map (standing_of (submits_of present.now) (receipts_of present.now)) submit.now.key) }
-    ensures decider { option_copied result.1
-        ≡ decider_of (submits_of present.now) (receipts_of present.now) submit.now.key }
+    ensures shared { (submits : List SubmittedMessage) (receipts : List KeyedReceipt) (key : Option LinkKey)
+        → HasGroup groups.now submits receipts key number
+        → result.0 ≡ is_shared (option_map (standing_of submits receipts) key) }
+    ensures decider { (submits : List SubmittedMessage) (receipts : List KeyedReceipt) (key : Option LinkKey)
+        → HasGroup groups.now submits receipts key number
+        → option_copied result.1 ≡ decider_of submits receipts key }
 {
-    let Some(key) = submit.key() else {
+    let Some(number) = number else {
         return (false, None);
     };
-    if keys.matches.is_single(&key) {
-        (false, keys.deciders.receipt(&key))
+    let (found, decider) = group_at(groups, number);
+    if is_single(found) {
+        (false, decider)
     } else {
         (true, None)
     }
+}
+
+/// Whether one message is accepted with a key and no other.
+fn is_single(found: Option<Match>) -> bool
+    ensures { result ≡ (number_in found == 1) }
+{
+    matches!(found, Some(Match::One(_)))
 }
 
 /// What the receipt says that decides, where one does.

@@ -1,6 +1,0 @@
-use Rattle.std.proofs.Common.{sym, ◌∙◌}
-use Rattle.smq_scratch.proofs.KeyMaps.{get-key}
-use Rattle.smq_scratch.proofs.deciders.Deciders.receipt.Goals as goal
-
-pub returns : goal.returns
-returns c = c.get.ensures.value ∙ sym (get-key c.args.self.now.receipts.entries c.args.key.now)
