@@ -1,10 +1,8 @@
 -- Which receipts decide which submitted messages.
-use Rattle.std.specs.Prelude.{◌≡◌, ℕ, ◌==◌, Bool, List, count_by, if◌then◌else◌, Option, Some, None, option_to_list}
+use Rattle.std.specs.Prelude.{ℕ, ◌==◌, Bool, List, count_by, if◌then◌else◌, Option, Some, None, option_to_list}
 use Rattle.std.specs.List.{list_any}
-use Rattle.std.specs.BTreeMap.{BTreeMap}
-use Rattle.std.specs.FinMap as map
 use Rattle.smq_kit.specs.declared.link_key.LinkKey.{LinkKey}
-use Rattle.smq_kit.specs.LinkKeys.{same_key, by_key}
+use Rattle.smq_kit.specs.LinkKeys.{same_key}
 use Rattle.smq_present.specs.within.Messages.{SubmittedMessage}
 use Rattle.smq_present.specs.within.Receipts.{PlacedReceipt, KeyedReceipt, candidates, least_receipt, earlier}
 
@@ -26,17 +24,7 @@ decider_of submits receipts None = None
 decider_of submits receipts (Some key) =
     if is_single submits key then least_receipt (candidates key receipts) else None
 
--- ---- what maps have at keys
-
--- the receipt at a key, where there is one
-abbrev pub decider_kept : BTreeMap LinkKey PlacedReceipt → LinkKey → Option PlacedReceipt
-decider_kept kept key = map.get (by_key kept) key
-
 -- the earlier of a receipt that may be there and another
 abbrev pub decider_with : Option PlacedReceipt → PlacedReceipt → PlacedReceipt
 decider_with None receipt = receipt
 decider_with (Some decider) receipt = earlier decider receipt
-
--- A map has at each key the least receipt that can decide, where there is one.
-pub record HasDeciders (kept : BTreeMap LinkKey PlacedReceipt) (receipts : List KeyedReceipt) : Type 0 where
-  pub at : (key : LinkKey) → map.get (by_key kept) key ≡ least_receipt (candidates key receipts)
