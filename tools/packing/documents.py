@@ -14,7 +14,7 @@ Each command has a manual page, as smq(1). /etc/smq has settings, names, routes,
 writes a page of the last minutes, once it is enabled (examples/live). docs/FORMATS.md has each format. No licence has been
 chosen yet (copyright).
 """)),
-    "docs/GUIDE.md": ((r" Commands are given at the top [^.]*\.", ""),),
+    "docs/GUIDE.md": ((r" Commands are given at the top [^.]*\.", ""), (r"^docs/BILLION\.md says .*\n\n", "")),
     "examples/month/Makefile": ((r"^SMQ \?= .*\nTOOLS \?= .*\n", "SMQ ?= /usr/bin/smq\n"),),
     "examples/month/make-days": ((r"^tools=.*\n", ""),),
     "examples/month/README.md": ((r"^(?=```sh\n\./make-days)", "In a folder of yours, with a copy of this one and of ../kannel-six-links:\n\n"),),
