@@ -1,11 +1,12 @@
 -- A row that is written of octets is read as those octets.
-use Rattle.std.proofs.Common.{◌≡◌, ◌∙◌, ◌==◌, ◌||◌, ◌<◌, ◌≤◌, ◌/◌, ◌%◌, ◌^◌, ℕ, true, false, List, [], ◌∷◌, ◌++◌, length, map, Some, suc, codes, refl, sym, ap, subst, append_assoc, arith}
+use Rattle.std.proofs.Common.{◌≡◌, ◌∙◌, ◌==◌, ◌||◌, ◌<◌, ◌≤◌, ◌/◌, ◌%◌, ◌^◌, ℕ, true, false, List, [], ◌∷◌, ◌++◌, length, map, Some, suc, codes, refl, sym, ap, subst, append_assoc, arith, rules}
 use Rattle.std.specs.Prelude.{nat_le, decimal, slice_index}
 use Rattle.std.specs.Char.{is_ascii_digit}
 use Rattle.std.specs.List.{All, flat_map, list_all, list_any}
 use Rattle.std.proofs.lemmas.Bool.{and_parts}
 use Rattle.std.proofs.lemmas.Bool.Decides.{nat_tests}
 use Rattle.std.proofs.lemmas.Fmt.{decimal_is_IsNumeral, digits_decimal, digits_value-decimal, length-decimal-le}
+use Rattle.std.proofs.lemmas.Str.Parse.{IsNumeralModel, numerals_by_weight}
 use Rattle.hex.specs.Hex.{IsBytes, encode_lower, encode_with, hex_digit_value, lower_digits}
 use Rattle.hex.proofs.HexLemmas.{IsDigits-lower_digits, decode_of-encode_lower}
 use Rattle.csv.specs.Machine.{next_record}
@@ -16,11 +17,14 @@ use Rattle.csv.specs.declared.parser.State.TheVariants as st
 use Rattle.csv.proofs.RoundTrip.{read-write-many}
 use Rattle.smq_capture.specs.declared.side.Side.{Side}
 use Rattle.smq_capture.specs.declared.side.Side.TheVariants.{Client, Centre}
-use Rattle.smq_load.specs.Decimal.{decimal_of, decimal_to}
+use Rattle.smq_load.specs.Decimal.{decimal_of, decimal_to, sum_of}
 use Rattle.smq_load.specs.Row.{row_of}
 use Rattle.smq_load.specs.Script.{IsScript, SayRows, most_records}
-use Rattle.smq_load.proofs.DecimalLemmas.{own}
 use Rattle.smq.specs.CaptureRows.{Captured, IsInRange, said, written}
+
+-- `sum_of` is the number that digits represent
+own : IsNumeralModel (λ ds. list_all is_ascii_digit ds ≡ true) sum_of
+own = numerals_by_weight _ (search rules) sum_of (search rules)
 
 -- ---- fields that need no quotes
 
