@@ -1,5 +1,0 @@
-use Rattle.smq.proofs.laws.rows_are_read.Goals as goal
-use Rattle.smq.proofs.RowLemmas as rows
-
-pub returns : goal.returns
-returns c = record { rows = rows.rows_are_read }

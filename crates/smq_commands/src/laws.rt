@@ -1,0 +1,13 @@
+//! Known values of the definitions: each is the contract of a function with no body.
+ghost use Rattle.smq_commands.specs.CaptureRows.{RowsAreRead};
+ghost use Rattle.smq_commands.specs.Known.{KnowsStatuses};
+
+/// The statuses with which the program ends.
+pub fn known_statuses()
+    ensures { KnowsStatuses }
+{}
+
+/// What is written of captures is read as those pieces of sessions, one after the other, and nothing else.
+pub fn rows_are_read()
+    ensures { RowsAreRead }
+{}
