@@ -1,4 +1,4 @@
-"""Scripts of links and days, which `smq capture --into` writes: they are the whole script, split here by its rows, or by
+"""Scripts of links, days and hours, which `smq capture --into` writes: they are the whole script, split here by its rows, or by
 tools/split-script."""
 import datetime
 import os
@@ -23,12 +23,17 @@ def day_of(moment):
     return (datetime.date(1970, 1, 1) + datetime.timedelta(milliseconds=int(moment))).isoformat()
 
 
+def hour_of(moment):
+    return (datetime.datetime(1970, 1, 1) + datetime.timedelta(milliseconds=int(moment))).strftime("%Y-%m-%dT%HZ")
+
+
 def parts_of(rows, by):
     """Returns the rows of a script by the names of the scripts that they go to."""
     parts = {}
     for it in rows:
         _, link, _, _, moment, _ = it.split(",")
-        name = {"link": f"link-{link}.csv", "day": f"{day_of(moment)}.csv", "link,day": f"{day_of(moment)}/link-{link}.csv"}[by]
+        name = {"link": f"link-{link}.csv", "day": f"{day_of(moment)}.csv", "link,day": f"{day_of(moment)}/link-{link}.csv",
+                "hour": f"{hour_of(moment)}.csv", "link,hour": f"{hour_of(moment)}/link-{link}.csv"}[by]
         parts.setdefault(name, []).append(it)
     return parts
 
@@ -69,7 +74,8 @@ def split_faults(program, room):
             captures.append((os.path.basename(os.path.dirname(it)), [it], file.read().split()))
     for name, paths, words in captures:
         whole, _, _ = run(program, ["capture", *words, *paths])
-        for by, given in (("link", ["--by", "link"]), ("day", ["--by=day"]), ("link,day", ["--by", "link,day"]), ("link,day", [])):
+        for by, given in (("link", ["--by", "link"]), ("day", ["--by=day"]), ("hour", ["--by", "hour"]), ("link,day", ["--by", "link,day"]),
+                          ("link,day", []), ("link,hour", ["--by", "link,hour"])):
             folder = tempfile.mkdtemp(dir=room)
             # (few files may be open)
             told = run_within(program, ["capture", *words, "--into", folder, *given, *paths], resource.RLIMIT_NOFILE, MOST_OPEN)
@@ -187,9 +193,9 @@ def word_faults(program, room):
     path, = written(room, [pcap(GAP)])
     for words, line in (
             (["--by", "link"], "error: --by wants --into, which names the folder of the scripts"),
-            (["--into", room, "--by", "session"], "error: 'session' is none of link, day and link,day"),
-            (["--into", room, "--every", "10"], "error: --into takes no --every: a row of the clock is of no link and no day"),
+            (["--into", room, "--by", "session"], "error: 'session' is none of link, day, hour, link,day and link,hour"),
+            (["--into", room, "--every", "10"], "error: --into takes no --every: a row of the clock is of no link and no period"),
             (["--into", room, "--every", "10", "--ask", "link"],
-             "error: --into takes no --every: a row of the clock is of no link and no day")):
+             "error: --into takes no --every: a row of the clock is of no link and no period")):
         rows, lines, status = run(program, ["capture", *WORDS.split(), *words, path])
         yield differs(" ".join(words), ([], line, 2), (rows, lines[0], status))

@@ -48,7 +48,7 @@ pub(crate) fn by_of(alloc: Global, captures: &Captures) -> Result<Option<By>, Er
     if captures.every.is_some() {
         return Err(bad_words(
             alloc,
-            "--into takes no --every: a row of the clock is of no link and no day",
+            "--into takes no --every: a row of the clock is of no link and no period",
         )?);
     }
     let Some(word) = &captures.by else {
@@ -57,9 +57,13 @@ pub(crate) fn by_of(alloc: Global, captures: &Captures) -> Result<Option<By>, Er
     match word.as_str() {
         "link" => Ok(Some(By::Link)),
         "day" => Ok(Some(By::Day)),
+        "hour" => Ok(Some(By::Hour)),
         "link,day" => Ok(Some(By::LinkAndDay)),
+        "link,hour" => Ok(Some(By::LinkAndHour)),
         text => {
-            let message = format!(in alloc; "'{text}' is none of link, day and link,day")?;
+            let message = format!(in alloc;
+                "'{text}' is none of link, day, hour, link,day and link,hour"
+            )?;
             Err(bad_words(alloc, message.as_str())?)
         }
     }

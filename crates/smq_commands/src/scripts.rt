@@ -1,8 +1,8 @@
-//! Scripts of links and days as files of a folder.
+//! Scripts of links, days and hours as files of a folder.
 ghost use Rattle.std.specs.Prelude.{◌≡◌, ◌++◌, None, OnOk, string_bytes};
 ghost use Rattle.smq_commands.specs.Scripts.{script_name};
 
-use smq_count::push_day;
+use smq_count::{push_day, push_hour};
 use smq_parts::{By, Folder, Part};
 use std::alloc::{AllocError, Global};
 use std::collections::BTreeSet;
@@ -14,7 +14,7 @@ use std::{fs, io};
 /// What stands behind the name of a script until it is whole.
 const UNFINISHED: &str = ".part";
 
-/// Scripts of links and days as files of a folder. No file stays open, since scripts may be many.
+/// Scripts of links and periods as files of a folder. No file stays open, since scripts may be many.
 #[derive(Drop)]
 pub(crate) struct Scripts<'a, R> {
     rt: &'a R,
@@ -147,11 +147,19 @@ fn push_name(path: &mut String, by: By, part: Part) -> Result<(), AllocError>
     match by {
         By::Link => write!(path, "link-{link}.csv"),
         By::Day => {
-            push_day(path, part.day)?;
+            push_day(path, part.period)?;
+            path.push_str(".csv")
+        }
+        By::Hour => {
+            push_hour(path, part.period)?;
             path.push_str(".csv")
         }
         By::LinkAndDay => {
-            push_day(path, part.day)?;
+            push_day(path, part.period)?;
+            write!(path, "/link-{link}.csv")
+        }
+        By::LinkAndHour => {
+            push_hour(path, part.period)?;
             write!(path, "/link-{link}.csv")
         }
     }

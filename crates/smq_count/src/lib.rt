@@ -18,4 +18,4 @@ pub use laws::{
     known_days, known_local_times,
 };
 pub use local::{Local, MOST_ZONE, Zone};
-pub use period::push_day;
+pub use period::{push_day, push_hour};

@@ -60,7 +60,8 @@ fn push_time(text: &mut String, minute: u32) -> Result<(), AllocError>
     text.push_str("Z")
 }
 
-fn push_hour(text: &mut String, hour: u32) -> Result<(), AllocError>
+/// Puts an hour of UTC after the text, by the number of hours since 1970.
+pub fn push_hour(text: &mut String, hour: u32) -> Result<(), AllocError>
     ensures { OnOk result (string_bytes text.new ≡ string_bytes text.old ++ hour_text hour) }
 {
     push_day(text, hour / 24)?;

@@ -28,8 +28,8 @@ equal m n e = grind (arith, nat_tests, e)
 -- a script is that one where it has the same link and day
 pub same-part : (p q : Part) → is_part p q ≡ true → p ≡ q
 same-part p q e =
-    let parts = and_parts (p.link == q.link) (p.day == q.day) e in
-    λ i. record { link = equal p.link q.link parts.0 i; day = equal p.day q.day parts.1 i }
+    let parts = and_parts (p.link == q.link) (p.period == q.period) e in
+    λ i. record { link = equal p.link q.link parts.0 i; period = equal p.period q.period parts.1 i }
 
 -- a text for another script waits for none but that one
 apart : (part to own : Part) (text : List ℕ) → is_part to own ≡ true → is_part part to ≡ false → cond (is_part part own) text [] ≡ []

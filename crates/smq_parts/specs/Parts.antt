@@ -1,4 +1,4 @@
--- The scripts that rows are split into, by their links and days.
+-- The scripts that rows are split into, by their links and days or hours.
 use Rattle.std.specs.Prelude.{ℕ, ◌/◌, ◌==◌, ◌&&◌, min, Bool, cond, List, [], ◌∷◌, filter, Option}
 use Rattle.std.specs.List.{flat_map}
 use Rattle.std.specs.Io.KnownBytes.{Appends, Keeps}
@@ -10,15 +10,21 @@ use Rattle.smq_parts.specs.declared.by.Part.{Part}
 abbrev pub day_of : ℕ → ℕ
 day_of moment = min (moment / 86400000) 47482
 
+-- its hour in the same way
+abbrev pub hour_of : ℕ → ℕ
+hour_of moment = min (moment / 3600000) 1139568
+
 -- the script of a row of a link, by its moment
 abbrev pub part_by : By → ℕ → ℕ → Part
-part_by by.Link link moment = record { link = link; day = 0 }
-part_by by.Day link moment = record { link = 0; day = day_of moment }
-part_by by.LinkAndDay link moment = record { link = link; day = day_of moment }
+part_by by.Link link moment = record { link = link; period = 0 }
+part_by by.Day link moment = record { link = 0; period = day_of moment }
+part_by by.Hour link moment = record { link = 0; period = hour_of moment }
+part_by by.LinkAndDay link moment = record { link = link; period = day_of moment }
+part_by by.LinkAndHour link moment = record { link = link; period = hour_of moment }
 
 -- whether a script is that one
 abbrev pub is_part : Part → Part → Bool
-is_part part other = part.link == other.link && part.day == other.day
+is_part part other = part.link == other.link && part.period == other.period
 
 -- the texts of scripts, where they are known
 abbrev pub Texts : Type 0
@@ -44,7 +50,7 @@ Become by [] before after = (part : Part) → Keeps (before part) (after part)
 Become by (row ∷ rows) before after =
     (between : Texts) × Puts (part_by by row.link row.moment) row.text before between × Become by rows between after
 
--- each script has exactly the rows of its link and day, in order, behind what it had
+-- each script has exactly the rows of its link and period, in order, behind what it had
 abbrev pub HaveTheirRows : Type 0
 HaveTheirRows = (by : By) (rows : List Row) (before after : Texts) → Become by rows before after
     → (part : Part) → Appends (before part) (after part) (flat_map (λ row. row.text) (rows_of by part rows))

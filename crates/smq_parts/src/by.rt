@@ -1,13 +1,17 @@
 //! Which script a row goes to.
 ghost use Rattle.std.specs.Prelude.{◌≡◌};
-ghost use Rattle.smq_parts.specs.Parts.{day_of, is_part, part_by};
+ghost use Rattle.smq_parts.specs.Parts.{day_of, hour_of, is_part, part_by};
 
 use std::cmp::min;
 
-/// The ms of a day.
+/// The ms of an hour and of a day.
+const HOUR: u64 = 3_600_000;
+
 const DAY: u64 = 86_400_000;
 
-/// The first day of the year 2100, which comes after all that captures have.
+/// The first hour and the first day of the year 2100, which come after all that captures have.
+const LAST_HOUR: u64 = 1_139_568;
+
 const LAST_DAY: u64 = 47_482;
 
 /// What rows are split by.
@@ -16,14 +20,16 @@ pub enum By {
     Link,
     /// Of the row's moment, in UTC.
     Day,
+    Hour,
     LinkAndDay,
+    LinkAndHour,
 }
 
-/// A script that rows are split into: its link, and its day by the number of days since 1970; 0 of what rows aren't split by.
+/// A script that rows are split into: its link, and its period by the number of days or hours since 1970; 0 of what rows aren't split by.
 #[derive(Clone, Copy, Debug, PartialEq, Eq, PartialOrd, Ord)]
 pub struct Part {
     pub link: u32,
-    pub day: u32,
+    pub period: u32,
 }
 
 impl By {
@@ -32,14 +38,22 @@ impl By {
         ensures { result ≡ part_by self link moment }
     {
         match self {
-            By::Link => Part { link, day: 0 },
+            By::Link => Part { link, period: 0 },
             By::Day => Part {
                 link: 0,
-                day: day_of(moment),
+                period: day_of(moment),
+            },
+            By::Hour => Part {
+                link: 0,
+                period: hour_of(moment),
             },
             By::LinkAndDay => Part {
                 link,
-                day: day_of(moment),
+                period: day_of(moment),
+            },
+            By::LinkAndHour => Part {
+                link,
+                period: hour_of(moment),
             },
         }
     }
@@ -52,11 +66,18 @@ fn day_of(moment: u64) -> u32
     min(moment / DAY, LAST_DAY) as u32
 }
 
+/// The hour of a moment.
+fn hour_of(moment: u64) -> u32
+    ensures { result ≡ hour_of moment }
+{
+    min(moment / HOUR, LAST_HOUR) as u32
+}
+
 impl Part {
     /// Whether it is that one.
     pub fn is(self, other: Part) -> bool
         ensures { result ≡ is_part self other }
     {
-        self.link == other.link && self.day == other.day
+        self.link == other.link && self.period == other.period
     }
 }

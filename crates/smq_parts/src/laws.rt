@@ -2,7 +2,7 @@
 ghost use Rattle.smq_parts.specs.Known.{KnowsParts};
 ghost use Rattle.smq_parts.specs.Parts.{HaveTheirRows};
 
-/// Whatever rows are put one after the other, each script has exactly those of its link and day, in order, behind what it had.
+/// Whatever rows are put one after the other, each script has exactly those of its link and period, in order, behind what it had.
 pub fn parts_have_their_rows()
     ensures { HaveTheirRows }
 {}

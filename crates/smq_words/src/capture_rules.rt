@@ -167,7 +167,7 @@ fn into_option<'a>(alloc: Global) -> Arg<'a>
         .long("into")
         .value_name("FOLDER")
         .help(
-            "Write a script for each link and day into FOLDER, rather than one to standard output",
+            "Write a script for each link and day (or --by) into FOLDER, rather than one to standard output",
         )
         .action(ArgAction::Set)
 }
@@ -179,7 +179,7 @@ fn by_option<'a>(alloc: Global) -> Arg<'a>
         .long("by")
         .value_name("COLUMNS")
         .help(
-            "What --into has a script for each of: link, day (in UTC), or link,day (where none is given)",
+            "What --into has a script for each of: link, day, hour (in UTC), link,hour, or link,day (where none is given)",
         )
         .action(ArgAction::Set)
 }

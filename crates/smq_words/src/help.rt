@@ -123,8 +123,9 @@ other direction with the first PDU behind all that was captured before.
 the end, comes a row for each --ask, a question to smq follow: `ask,NAME`, or `ask,count,COLUMN,..`.
 
 `--into FOLDER` writes each row to the script of its link and day, as FOLDER/2026-11-29/link-1.csv; `--by link` to
-FOLDER/link-1.csv, `--by day` to FOLDER/2026-11-29.csv. Folders are made. Until the captures have ended, `.part` stands
-behind each name; after a fault it stays. What is there already isn't written over: the status is 3.
+FOLDER/link-1.csv, `--by day` to FOLDER/2026-11-29.csv, `--by hour` to FOLDER/2026-11-29T13Z.csv. Folders are made.
+Until the captures have ended, `.part` stands behind each name; after a fault it stays. What is there already isn't
+written over: the status is 3.
 
 Status:
   0  all that was sent was captured, as far as is seen
