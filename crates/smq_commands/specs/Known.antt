@@ -1,8 +1,10 @@
--- Statuses, at known values.
-use Rattle.std.specs.Prelude.{◌≡◌, ℕ, true, false, [], ◌∷◌}
+-- Statuses and names of scripts, at known values.
+use Rattle.std.specs.Prelude.{◌≡◌, ℕ, true, false, [], ◌∷◌, codes}
 use Rattle.smq_kit.specs.declared.refusal.Refusal.TheVariants as refusal
 use Rattle.smq_engine.specs.declared.run_fault.RunFault.TheVariants as run_fault
+use Rattle.smq_parts.specs.declared.by.By.TheVariants as by
 use Rattle.smq_commands.specs.declared.status.TheConstants.{DONE, REFUSED, BAD_INPUT, FAULT, NO_MEMORY}
+use Rattle.smq_commands.specs.Scripts.{script_name}
 use Rattle.smq_commands.specs.Statuses.{bad_words_status, check_status, fault_status, follow_status, run_status}
 
 -- the status of each end of the program, and of each fault
@@ -27,3 +29,11 @@ pub record KnowsStatuses : Type 0 where
   pub different : check_status (record { same = false; entries = 67; refused = 0 }) ≡ 1
   pub followed : follow_status (record { refused = 0 }) ≡ 0
   pub followed_but_refused : follow_status (record { refused = 2 }) ≡ 1
+
+-- of the link 7, of 29 November 2026 and of its hour from 13:00 on
+pub record KnowsScripts : Type 0 where
+  pub link : script_name by.Link (record { link = 7; period = 0 }) ≡ codes "link-7.csv"
+  pub day : script_name by.Day (record { link = 0; period = 20786 }) ≡ codes "2026-11-29.csv"
+  pub hour : script_name by.Hour (record { link = 0; period = 498877 }) ≡ codes "2026-11-29T13Z.csv"
+  pub of_day : script_name by.LinkAndDay (record { link = 7; period = 20786 }) ≡ codes "2026-11-29/link-7.csv"
+  pub of_hour : script_name by.LinkAndHour (record { link = 7; period = 498877 }) ≡ codes "2026-11-29T13Z/link-7.csv"

@@ -22,7 +22,7 @@ mod told;
 mod window_length;
 mod window_rows;
 
-pub use laws::{known_statuses, rows_are_read};
+pub use laws::{known_names, known_statuses, rows_are_read};
 pub use obey::obey;
 pub use progress::Terminals;
 pub use timed_input::{Blocks, blocks, send_all};
