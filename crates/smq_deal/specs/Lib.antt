@@ -3,3 +3,4 @@ pub mod Parts
 pub mod Open
 pub mod Known
 pub mod Texts
+pub mod KnownTexts

@@ -11,5 +11,8 @@ mod rule;
 
 pub use dealt::{Dealt, MOST_PARTS};
 pub use head::{Head, Setting};
-pub use laws::{counts_of_parts_add, known_parts, parts_are_few, parts_keep_pairs_and_keys};
+pub use laws::{
+    counts_of_parts_add, known_parts, known_rows, known_settlement, parts_are_few,
+    parts_keep_pairs_and_keys,
+};
 pub use open::Open;
