@@ -32,6 +32,7 @@ pub use play::{PlayedBook, play_next, play_row, play_rows};
 pub use question::Question;
 pub use record::{Loss, Record};
 pub use retrying_reader::RetryingReader;
+pub use row_stream::read_next_row;
 pub use run_fault::RunFault;
 pub use runs::{Limit, Ran, count, run, total};
 pub use workers::WORKERS;

@@ -76,8 +76,9 @@ fn play_records<R: Read>(
     Err(RunFault::Read)
 }
 
-/// The row of the next record of a reader, of this number, where there is one.
-fn read_next_row<R: Read>(
+/// The row of the next record of a reader, of this number, where there is one. Errors: `BadRow` where it says no row, with its number; `Read`;
+/// `Memory`.
+pub fn read_next_row<R: Read>(
     alloc: Global,
     reader: &mut Reader<R>,
     fields: &mut ByteRecord,
