@@ -2,12 +2,12 @@
 use crate::capture_rows::{CaptureRows, RowTexts};
 use crate::capture_words::{by_of, options_of};
 use crate::error_lines::ErrorLines;
-use crate::obey::{Wanted, run_task};
 use crate::progress::{Progress, StandardOutput};
 use crate::questions::questions_of;
 use crate::scripts::Scripts;
 use crate::sources::Sources;
 use crate::status::{BAD_INPUT, DONE, FAULT, NO_MEMORY, REFUSED};
+use crate::tasks::{Wanted, run_task};
 use crate::timed_input::{Blocks, TimedInput};
 use crate::told::print_words_error;
 use smq_capture::{Capture, Fault, Options, Sink, SplitTexts, Texts};
