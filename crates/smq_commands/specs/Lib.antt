@@ -2,3 +2,4 @@ pub mod Statuses
 pub mod Known
 pub mod CaptureRows
 pub mod Scripts
+pub mod Played
