@@ -1,6 +1,7 @@
 -- Statuses and names of scripts, at known values.
-use Rattle.std.specs.Prelude.{◌≡◌, ℕ, true, false, [], ◌∷◌, codes}
+use Rattle.std.specs.Prelude.{◌≡◌, ◌++◌, ℕ, true, false, [], ◌∷◌, codes}
 use Rattle.smq_kit.specs.declared.refusal.Refusal.TheVariants as refusal
+use Rattle.smq_count.specs.Months.{day_text, hour_text}
 use Rattle.smq_engine.specs.declared.run_fault.RunFault.TheVariants as run_fault
 use Rattle.smq_parts.specs.declared.by.By.TheVariants as by
 use Rattle.smq_commands.specs.declared.status.TheConstants.{DONE, REFUSED, BAD_INPUT, FAULT, NO_MEMORY}
@@ -30,10 +31,10 @@ pub record KnowsStatuses : Type 0 where
   pub followed : follow_status (record { refused = 0 }) ≡ 0
   pub followed_but_refused : follow_status (record { refused = 2 }) ≡ 1
 
--- of the link 7, of 29 November 2026 and of its hour from 13:00 on
+-- of the link 7, of a day and of an hour (smq_count has known texts of both)
 pub record KnowsScripts : Type 0 where
   pub link : script_name by.Link (record { link = 7; period = 0 }) ≡ codes "link-7.csv"
-  pub day : script_name by.Day (record { link = 0; period = 20786 }) ≡ codes "2026-11-29.csv"
-  pub hour : script_name by.Hour (record { link = 0; period = 498877 }) ≡ codes "2026-11-29T13Z.csv"
-  pub of_day : script_name by.LinkAndDay (record { link = 7; period = 20786 }) ≡ codes "2026-11-29/link-7.csv"
-  pub of_hour : script_name by.LinkAndHour (record { link = 7; period = 498877 }) ≡ codes "2026-11-29T13Z/link-7.csv"
+  pub day : script_name by.Day (record { link = 0; period = 20786 }) ≡ day_text 20786 ++ codes ".csv"
+  pub hour : script_name by.Hour (record { link = 0; period = 498877 }) ≡ hour_text 498877 ++ codes ".csv"
+  pub of_day : script_name by.LinkAndDay (record { link = 7; period = 20786 }) ≡ day_text 20786 ++ codes "/" ++ codes "link-7.csv"
+  pub of_hour : script_name by.LinkAndHour (record { link = 7; period = 498877 }) ≡ hour_text 498877 ++ codes "/" ++ codes "link-7.csv"
